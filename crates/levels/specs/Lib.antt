@@ -1,0 +1,5 @@
+pub mod Verdicts
+pub mod Rules
+pub mod Standings
+pub mod Entries
+pub mod Ledgers
