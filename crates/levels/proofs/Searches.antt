@@ -140,12 +140,3 @@ pub ascending-tried : (b : ℕ) (es tried : List Entry) (i : ℕ) (t : Bool) →
 ascending-tried b es tried i true a l h g e =
     ap ascending (e ∙ entered-at b es i l h g) ∙ ascending-entered b es (absent b es i a l h g) a
 ascending-tried b es tried i false a l h g e = ap ascending e ∙ a
-
--- a boat that is not on the list
-pub heard-absent : (b f : ℕ) (es : List Entry) → floorOf b es ≡ None → heard b f es ≡ es
-heard-absent b f [] n = refl
-heard-absent b f (e ∷ es) n = go (eqb (e .boat .0) b) n (λ m. heard-absent b f es m)
-  where
-    go : (t : Bool) → cond t (Some (e .floor .0)) (floorOf b es) ≡ None → (floorOf b es ≡ None → heard b f es ≡ es) → cond t (entry (e .boat .0) (max (e .floor .0) f) ∷ es) (e ∷ heard b f es) ≡ e ∷ es
-    go true m r = let z : _≡_ {A = ℕ} 0 1 = cc in absurd (omega arith)
-    go false m r = ap (λ t. e ∷ t) (r m)

@@ -49,16 +49,13 @@ abbrev pub listing : Book → ℕ → Result Book Verdict
 listing x b =
     cond (eqb b 0) (Err Bad) (cond (isSome (floorOf b (x .list))) (Ok x) (cond (ltb 1 (x .said)) (Err (Number 4)) (cond (leb 4096 (length (x .list))) (Err (Number 6)) (Ok (record { list = entered b (x .list); said = x .said })))))
 
--- the answer to a promise: the highest that was heard of that boat
-abbrev pub answering : Option ℕ → ℕ → Result ℕ Verdict
-answering None f = Err (Number 5)
-answering (Some g) f = Ok (max g f)
+-- a promise that is heard: the highest is kept, and is the answer. Of a boat that is not on the list: 5
+abbrev pub answering : Book → ℕ → ℕ → Option ℕ → Result (ℕ × Book) Verdict
+answering x b f None = Err (Number 5)
+answering x b f (Some g) = Ok (max g f, record { list = heard b f (x .list); said = x .said })
 
-abbrev pub hearing : Book → ℕ → ℕ → Result ℕ Verdict
-hearing x b f = answering (floorOf b (x .list)) f
-
-abbrev pub heardBook : Book → ℕ → ℕ → Book
-heardBook x b f = record { list = heard b f (x .list); said = x .said }
+abbrev pub hearing : Book → ℕ → ℕ → Result (ℕ × Book) Verdict
+hearing x b f = answering x b f (floorOf b (x .list))
 
 -- not every boat of the list has promised k; and of an empty list nobody has promised more than 1
 abbrev pub unpromised : ℕ → List Entry → Bool

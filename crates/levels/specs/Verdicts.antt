@@ -48,6 +48,11 @@ abbrev pub Does : {A : Type 0} → Result A Verdict → Result (Unit {0}) Refusa
 Does want (Ok u) x y = want ≡ Ok y
 Does want (Err e) x y = (want ≡ Err (verdict e)) × (y ≡ x)
 
+-- a call that answers with a value, which means f of it
+abbrev pub Replies : {A B C : Type 0} → (C → B) → Result (B × A) Verdict → Result C Refusal → A → A → Type 0
+Replies f want (Ok v) x y = want ≡ Ok (f v, y)
+Replies f want (Err e) x y = (want ≡ Err (verdict e)) × (y ≡ x)
+
 -- want of memory may come instead of anything; any other refusal is the one that is wanted
 abbrev pub Due : {A : Type 0} → Result A Verdict → Verdict → Type 0
 Due want (Number n) = want ≡ Err (Number n)

@@ -1,8 +1,8 @@
 // What the harbour does with its ledger.
 ghost use mathlib.Core.Path.{_≡_};
 ghost use Rattle.levels.specs.Entries.{Placed, floorOf, lacking};
-ghost use Rattle.levels.specs.Ledgers.{entries, book, blank, listing, hearing, heardBook, saying, floorNumber, floorIn, boatIn};
-ghost use Rattle.levels.specs.Verdicts.{Does, Tries, told};
+ghost use Rattle.levels.specs.Ledgers.{entries, book, blank, listing, hearing, saying, floorNumber, floorIn, boatIn};
+ghost use Rattle.levels.specs.Verdicts.{Does, Replies, Tries};
 use super::Entry;
 use super::Ledger;
 use crate::numbers::BoatId;
@@ -88,8 +88,7 @@ impl Ledger {
 
     // Hears a promise, keeps the highest, and answers with that.
     pub fn hear(&mut self, boat: BoatId, floor: Program) -> Result<Program, Refusal>
-        ensures answer { λ r. ⌜ told floorNumber r ≡ hearing (book (now (self .entry))) (boat .0) (floor .0) ⌝ }
-        ensures after { λ r. ⌜ book (now (self .exit)) ≡ heardBook (book (now (self .entry))) (boat .0) (floor .0) ⌝ }
+        ensures { λ r. ⌜ Replies floorNumber (hearing (book (now (self .entry))) (boat .0) (floor .0)) r (book (now (self .entry))) (book (now (self .exit))) ⌝ }
     {
         let Ok(i) = self.place(boat) else {
             return Err(Refusal::NotListed);

@@ -1,0 +1,41 @@
+-- What the code's lists are in the world.
+-- Assumes nothing.
+use Prim.Native.Nat.{ℕ, zero, suc, _-_, _≤_, _<_}
+use mathlib.Core.Path.{_≡_, refl, sym, ap, _∙_}
+use mathlib.Core.Bool.{Bool, true, false, cond, _&&_}
+use mathlib.Core.List.{List, [], _∷_, _++_, map}
+use mathlib.Core.Logic.{_⊎_, inl, inr}
+use native.Mathlib.Omega.{arith}
+use native.Mathlib.Nat.{not-suc-le-zero, le-of-suc-le-suc}
+use lib.Dec.{leb}
+use lib.ListN.{length, getD, set}
+use Rattle.std.specs.Of.Vec.{vec-items}
+use Rattle.std.specs.declared.option.Option.{Option}
+use Rattle.std.specs.declared.option.Option.the-variants.{Some, None}
+use Rattle.std.proofs.shelf.Tests.{and-from, and-left, and-right, le-leb, lt-leb, cond-true, cond-false}
+use Rattle.std.proofs.shelf.Lists.{length-map, map-set, getD-map}
+use Rattle.rehearsal.specs.declared.fleet.Vessel.{Vessel}
+use Rattle.rehearsal.specs.declared.fleet.Fleet.{Fleet}
+use Rattle.levels.specs.Standings.{first}
+use Rattle.rehearsal.specs.Worlds.{BoatState, World, world, state, begun, placeOf, stateAt}
+
+-- a boat that there is not, and one that there is
+pub nowhere : (f : Fleet) (b : ℕ) → (b < 1) ⊎ (length (vec-items (f .boats)) < b) → placeOf (world f) b ≡ None
+nowhere f b (inl l) = cond-false _ _ _ (and-left _ _ (lt-leb 1 b l))
+nowhere f b (inr l) =
+    let n = length-map (vec-items (f .boats)) state in
+    cond-false _ _ _ (and-right _ _ (lt-leb b (length (map state (vec-items (f .boats)))) (omega (arith, n))))
+
+pub somewhere : (f : Fleet) (b : ℕ) → 1 ≤ b → b ≤ length (vec-items (f .boats)) → placeOf (world f) b ≡ Some (b - 1)
+somewhere f b l m =
+    let n = length-map (vec-items (f .boats)) state in
+    cond-true _ _ _ (and-from _ _ (le-leb 1 b l) (le-leb b (length (map state (vec-items (f .boats)))) (omega (arith, n))))
+
+pub boat-is : (f : Fleet) (i : ℕ) (v : Vessel) → i < length (vec-items (f .boats)) → v ≡ getD (vec-items (f .boats)) i v → stateAt (world f) i ≡ state v
+boat-is f i v l e = getD-map state (vec-items (f .boats)) i v (begun first) l ∙ ap state (sym e)
+
+-- a place past the end holds nothing
+pub set-past : {A : Type 0} (xs : List A) (i : ℕ) (x : A) → length xs ≤ i → set xs i x ≡ xs
+set-past [] i x l = refl
+set-past (y ∷ ys) zero x l = absurd (not-suc-le-zero l)
+set-past (y ∷ ys) (suc i) x l = ap (λ t. y ∷ t) (set-past ys i x (le-of-suc-le-suc l))
