@@ -1,23 +1,25 @@
 -- What the code's lists are in the world.
 -- Assumes nothing.
-use Prim.Native.Nat.{ℕ, zero, suc, _-_, _≤_, _<_}
+use Prim.Native.Nat.{ℕ, zero, suc, _+_, _-_, _≤_, _<_}
 use mathlib.Core.Path.{_≡_, refl, sym, ap, _∙_}
 use mathlib.Core.Bool.{Bool, true, false, cond, _&&_}
-use mathlib.Core.List.{List, [], _∷_, _++_, map}
+use mathlib.Core.List.{List, [], _∷_, _++_, map, append-assoc}
 use mathlib.Core.Logic.{_⊎_, inl, inr}
 use native.Mathlib.Omega.{arith}
 use native.Mathlib.Nat.{not-suc-le-zero, le-of-suc-le-suc}
 use lib.Dec.{leb}
-use lib.ListN.{length, getD, set}
+use lib.ListN.{length, getD, set, take}
 use Rattle.std.specs.Of.Vec.{vec-items}
 use Rattle.std.specs.declared.option.Option.{Option}
 use Rattle.std.specs.declared.option.Option.the-variants.{Some, None}
 use Rattle.std.proofs.shelf.Tests.{and-from, and-left, and-right, le-leb, lt-leb, cond-true, cond-false}
-use Rattle.std.proofs.shelf.Lists.{length-map, map-set, getD-map}
+use Rattle.std.proofs.shelf.Lists.{length-map, map-set, map-push, getD-map, take-more}
 use Rattle.rehearsal.specs.declared.fleet.Vessel.{Vessel}
 use Rattle.rehearsal.specs.declared.fleet.Fleet.{Fleet}
 use Rattle.levels.specs.Standings.{first}
-use Rattle.rehearsal.specs.Worlds.{BoatState, World, world, state, begun, placeOf, stateAt}
+use Rattle.levels.specs.declared.ledger.Entry.{Entry}
+use Rattle.rehearsal.specs.declared.messages.Notice.{Notice}
+use Rattle.rehearsal.specs.Worlds.{allowing, toEach, BoatState, World, world, state, begun, placeOf, stateAt}
 
 -- a boat that there is not, and one that there is
 pub nowhere : (f : Fleet) (b : ℕ) → (b < 1) ⊎ (length (vec-items (f .boats)) < b) → placeOf (world f) b ≡ None
@@ -39,3 +41,8 @@ pub set-past : {A : Type 0} (xs : List A) (i : ℕ) (x : A) → length xs ≤ i 
 set-past [] i x l = refl
 set-past (y ∷ ys) zero x l = absurd (not-suc-le-zero l)
 set-past (y ∷ ys) (suc i) x l = ap (λ t. y ∷ t) (set-past ys i x (le-of-suc-le-suc l))
+
+-- one boat more is told
+pub each-more : (k : ℕ) (es : List Entry) (i : ℕ) (d : Entry) (was now : List Notice) → i < length es → now ≡ (was ++ toEach k (take i es)) ++ allowing k (getD es i d) ∷ [] → now ≡ was ++ toEach k (take (i + 1) es)
+each-more k es i d was now l e =
+    e ∙ append-assoc was (toEach k (take i es)) (allowing k (getD es i d) ∷ []) ∙ ap (λ t. was ++ t) (sym (ap (toEach k) (take-more es i d l) ∙ map-push (allowing k) (take i es) (getD es i d)))

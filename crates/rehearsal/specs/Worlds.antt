@@ -124,9 +124,11 @@ abbrev pub ticking : World → ℕ → Result World Verdict
 ticking w b = at (placeOf w b) (λ i. Ok (cond (tells (stateAt w i)) (noticed w (telling b (stateAt w i .standing .floor))) w))
 
 -- a level is told to each boat of the list
+abbrev pub allowing : ℕ → Entry → Notice
+allowing k e = Allowed (e .boat) (record { 0 = k })
+
 abbrev pub toEach : ℕ → List Entry → List Notice
-toEach k [] = []
-toEach k (e ∷ es) = Allowed (e .boat) (record { 0 = k }) ∷ toEach k es
+toEach k = map (allowing k)
 
 abbrev pub toldEach : World → ℕ → World
 toldEach w k = record { boats = w .boats; harbour = w .harbour; words = w .words; notices = w .notices ++ toEach k (w .harbour .list) }

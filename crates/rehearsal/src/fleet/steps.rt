@@ -2,8 +2,8 @@
 ghost use mathlib.Core.Path.{_≡_};
 ghost use Prim.Native.Nat.{_+_, _<_, _≤_};
 ghost use lib.ListN.{length};
-ghost use Rattle.std.specs.Of.Vec.{vec-len, vec-cap};
-ghost use Rattle.levels.specs.Ledgers.{entries};
+ghost use mathlib.Core.List.{_++_};
+ghost use Rattle.std.specs.Of.Vec.{vec-items, vec-len, vec-cap};
 ghost use Rattle.levels.specs.Standings.{view};
 ghost use Rattle.levels.specs.Verdicts.{Does, Tries, told};
 ghost use Rattle.rehearsal.specs.declared.messages.Notice.the-variants.{Promised, Heard, Allowed};
@@ -30,6 +30,16 @@ use levels::refusals::RefusalFromRefused;
 use levels::rules::reads;
 use levels::standing::Standing;
 use std::alloc::Global;
+
+// A level is told to each boat of a list.
+fn tell_each(notices: &mut Vec<Notice>, boats: &[Entry], level: Level)
+    requires { ⌜ vec-len (now notices) + length (now boats) ≤ vec-cap (now notices) ⌝ }
+    ensures { λ _. ⌜ vec-items (now (notices .exit)) ≡ vec-items (now (notices .entry)) ++ spec.toEach (level .0) (now (boats .entry)) ⌝ }
+{
+    for listed in boats {
+        notices.push_reserved(Notice::Allowed { to: listed.boat, level });
+    }
+}
 
 impl Fleet {
     // The boat with a number, and where it stands, if there is one.
@@ -236,22 +246,12 @@ impl Fleet {
         Ok(())
     }
 
-    // A level is told to each boat of the list.
-    fn tell_each(&mut self, level: Level)
-        requires { ⌜ vec-len (now self .notices) + length (entries (now self .harbour)) ≤ vec-cap (now self .notices) ⌝ }
-        ensures { λ _. ⌜ world (now (self .exit)) ≡ spec.toldEach (world (now (self .entry))) (level .0) ⌝ }
-    {
-        for listed in self.harbour.boats() {
-            self.notices.push_reserved(Notice::Allowed { to: listed.boat, level });
-        }
-    }
-
     fn announce(&mut self, level: Level) -> Result<(), Refusal>
         ensures { λ r. ⌜ Tries (spec.announcing (world (now (self .entry))) (level .0)) r (world (now (self .entry))) (world (now (self .exit))) ⌝ }
     {
         self.notices.reserve(self.harbour.boats().len())?;
         self.harbour.say(level)?;
-        self.tell_each(level);
+        tell_each(&mut self.notices, self.harbour.boats(), level);
         Ok(())
     }
 
