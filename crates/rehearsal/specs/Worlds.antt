@@ -17,7 +17,8 @@ use Rattle.levels.specs.declared.numbers.FormNumber.{FormNumber}
 use Rattle.levels.specs.declared.numbers.Level.{Level}
 use Rattle.levels.specs.declared.numbers.Program.{Program}
 use Rattle.levels.specs.declared.ledger.Entry.{Entry}
-use Rattle.levels.specs.Verdicts.{Verdict, Number, Bad}
+use Rattle.levels.specs.declared.refusals.Refusal.{Refusal}
+use Rattle.levels.specs.Verdicts.{Verdict, Number, Bad, Memory, verdict}
 use Rattle.levels.specs.Rules.{Boat, reads, sayForm}
 use Rattle.levels.specs.Standings.{view, first, renewed, goneBack, promised, raised}
 use Rattle.levels.specs.Entries.{floorOf}
@@ -47,8 +48,11 @@ pub record World : Type 0 where
 abbrev pub state : Vessel → BoatState
 state v = record { standing = view (v .standing); answered = v .answered }
 
+abbrev pub states : List Vessel → List BoatState
+states = map state
+
 abbrev pub world : Fleet → World
-world f = record { boats = map state (vec-items (f .boats)); harbour = book (f .harbour); words = vec-items (f .words); notices = vec-items (f .notices) }
+world f = record { boats = states (vec-items (f .boats)); harbour = book (f .harbour); words = vec-items (f .words); notices = vec-items (f .notices) }
 
 -- a program that begins: nothing is answered yet
 abbrev pub begun : Boat → BoatState
@@ -57,6 +61,11 @@ begun s = record { standing = s; answered = false }
 -- n boats at their start, nobody on the list, nothing sent
 abbrev pub start : ℕ → World
 start n = record { boats = replicate n (begun first); harbour = blank; words = []; notices = [] }
+
+-- a fleet is made of 1 to 8 boats, or there is no memory
+abbrev pub Begins : ℕ → Result Fleet Refusal → Type 0
+Begins n (Ok f) = (leb 1 n && leb n 8 ≡ true) × (world f ≡ start n)
+Begins n (Err e) = cond (leb 1 n && leb n 8) (verdict e ≡ Memory) (verdict e ≡ Bad)
 
 -- the place of the boat with the number b, if there is one
 abbrev pub placeOf : World → ℕ → Option ℕ

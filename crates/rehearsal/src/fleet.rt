@@ -4,6 +4,7 @@ use crate::messages::Word;
 use levels::ledger::Ledger;
 use levels::standing::Standing;
 
+mod reads;
 mod steps;
 
 // A boat: its standing, and whether the harbour has answered its promise, which it forgets when its program ends.

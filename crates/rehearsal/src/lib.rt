@@ -2,4 +2,4 @@
 pub mod messages;
 pub mod events;
 pub mod fleet;
-
+pub mod rehearsal;

@@ -1,0 +1,62 @@
+// What can be done with a rehearsal, and what is promised of it.
+ghost use mathlib.Core.Path.{_≡_};
+ghost use Rattle.std.specs.Of.Vec.{vec-items};
+ghost use Rattle.levels.specs.Ledgers.{book};
+ghost use Rattle.levels.specs.Verdicts.{Tries};
+ghost use Rattle.rehearsal.specs.Worlds.{world, states};
+ghost use Rattle.rehearsal.specs.Worlds as spec;
+ghost use Rattle.rehearsal.specs.Rehearsals.{Began};
+use super::Rehearsal;
+use crate::events::Event;
+use crate::fleet::Fleet;
+use crate::fleet::Vessel;
+use crate::messages::Notice;
+use crate::messages::Word;
+use levels::ledger::Ledger;
+use levels::refusals::Refusal;
+use std::alloc::Global;
+
+impl Rehearsal {
+    // So many boats, 1 to 8, at their start; nobody is on the harbour's list yet.
+    pub fn new(heap: Global, boats: usize) -> Result<Rehearsal, Refusal>
+        ensures { λ r. ⌜ Began boats r ⌝ }
+    {
+        let fleet = Fleet::new(heap, boats)?;
+        Ok(Rehearsal { fleet })
+    }
+
+    // Plays one event. What is refused changes nothing.
+    pub fn play(&mut self, event: Event) -> Result<(), Refusal>
+        ensures { λ r. ⌜ Tries (spec.play (world (now (self .entry) .fleet)) event) r (world (now (self .entry) .fleet)) (world (now (self .exit) .fleet)) ⌝ }
+    {
+        self.fleet.play(event)
+    }
+
+    // The boats: boat number i is at place i - 1.
+    pub fn boats(&self) -> &[Vessel]
+        ensures { λ r. ⌜ states (now r) ≡ world (now (self .entry) .fleet) .boats ⌝ }
+    {
+        self.fleet.boats()
+    }
+
+    // The harbour's ledger.
+    pub fn harbour(&self) -> &Ledger
+        ensures { λ r. ⌜ book (now r) ≡ world (now (self .entry) .fleet) .harbour ⌝ }
+    {
+        self.fleet.harbour()
+    }
+
+    // Every word that was ever sent, the oldest first.
+    pub fn words(&self) -> &[Word]
+        ensures { λ r. ⌜ now r ≡ world (now (self .entry) .fleet) .words ⌝ }
+    {
+        self.fleet.words()
+    }
+
+    // Every notice that was ever sent, the oldest first.
+    pub fn notices(&self) -> &[Notice]
+        ensures { λ r. ⌜ now r ≡ world (now (self .entry) .fleet) .notices ⌝ }
+    {
+        self.fleet.notices()
+    }
+}
