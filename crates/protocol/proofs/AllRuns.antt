@@ -6,8 +6,8 @@ use lib.Dec.{leb}
 use Rattle.std.proofs.shelf.Tests.{leb-true, le-leb}
 use Rattle.protocol.specs.Order.{Order, Lawful, Truthful, numbers}
 use Rattle.protocol.specs.Runs.{Runs, RunsOf, ShownRises, ShownTells}
-use Rattle.protocol.proofs.Plays.{plays-by-rules, run-reaches, runs-all, run-understood, run-levels-hold, run-grows, run-goes-back}
-use Rattle.protocol.proofs.Raises.{run-rises, run-rises-on}
+use Rattle.protocol.proofs.Plays.{plays-by-rules, run-reaches, runs-all, run-understood, run-levels-hold, run-grows, run-takes, run-goes-back}
+use Rattle.protocol.proofs.Raises.{run-rises, run-rises-on, raise-promises}
 
 pub all-runs : (O : Order) → Lawful O → RunsOf O
 all-runs O L below T =
@@ -18,9 +18,11 @@ all-runs O L below T =
       runUnderstood = run-understood O L below T;
       runLevelsHold = run-levels-hold O L below T;
       runGrows = run-grows O L below T;
+      runTakes = run-takes O L below T;
       runGoesBack = run-goes-back O L below T;
       runRises = run-rises O L below T;
       runRisesOn = run-rises-on O L below T;
+      raisePromises = raise-promises O L below T;
     }
 
 pub numbers-truthful : Truthful numbers leb

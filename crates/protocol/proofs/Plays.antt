@@ -7,12 +7,12 @@ use mathlib.Core.List.{List, [], _∷_, _++_, List·Memᴰ, List·Memᴰ·head, 
 use Prim.Native.Nat.{ℕ}
 use Rattle.std.proofs.shelf.Tests.{cond-both, cond-true, and-parts, and-from, or-cases, or-left, or-right}
 use Rattle.protocol.specs.Order.{Order, Lawful, Truthful}
-use Rattle.protocol.specs.Fleet.{Machine, Word, Promise, Heard, Level, HasIt, World, running, wrote, refiled, noticed, talked, enlisted, start, promised, heardOf, decided, learned, Step, renews, goesBack, promises, tells, hears, confirms, lists, decides, announces, learns, answers, talks, writes, refiles, Reach, begin, then, Later, now, next}
-use Rattle.protocol.specs.Promise.{Up}
+use Rattle.protocol.specs.Fleet.{Machine, Word, Notice, Promise, Heard, Level, HasIt, World, running, wrote, refiled, noticed, talked, enlisted, start, promised, heardOf, decided, learned, Step, renews, goesBack, promises, tells, hears, confirms, lists, decides, announces, learns, answers, talks, writes, refiles, Reach, begin, then, Later, now, next}
+use Rattle.protocol.specs.Promise.{Holds, Up}
 use Rattle.protocol.specs.Events.{Event, Run, MakePromise, Tell, Hear, Confirm, Enlist, Decide, Announce, Learn, Answer, Talk, Write, Refile, every, play, from, run}
-use Rattle.protocol.specs.Runs.{PlaysByRules, RunReaches, RunsAll, RunUnderstood, RunLevelsHold, RunGrows, RunGoesBack}
+use Rattle.protocol.specs.Runs.{PlaysByRules, RunReaches, RunsAll, RunUnderstood, RunLevelsHold, RunGrows, RunTakes, RunGoesBack}
 use Rattle.protocol.proofs.Puts.{put-here, one-more}
-use Rattle.protocol.proofs.Sound.{reach-later, grows, understood, levels-hold}
+use Rattle.protocol.proofs.Sound.{reach-later, grows, understood, levels-hold, backed, stable}
 
 -- a test that says yes of each says yes of whichever is on the list, and the other way
 pub every-one : {A : Type 0} (test : A → Bool) (xs : List A) → every test xs ≡ true → (x : A) → List·Memᴰ x xs → test x ≡ true
@@ -117,6 +117,14 @@ module _ (O : Order) (L : Lawful O) (below : O .Form → O .Form → Bool) (T : 
 
   pub run-grows : RunGrows O below
   run-grows crew es fs = subst (λ (v : World Form). Up O (run O below crew es) v) (sym (from-++ (start O crew) es fs)) (up-from (run O below crew es) fs)
+
+  pub run-takes : RunTakes O below
+  run-takes crew es fs =
+      let w : World Form = run O below crew es in
+      let v : World Form = run O below crew (es ++ fs) in
+      let true-there = backed O L w (run-reaches crew es) .0 in
+      let true-here : (n : Notice Form) → List·Memᴰ n (w .notices) → Holds O v n = λ n at. stable O L w v (run-grows crew es fs) n (true-there n at) in
+      (λ i f at. cond-true (below f (v .machine i .floor)) (heardOf O v i f) v (T .complete f (v .machine i .floor) (true-here (Promise i f) at)), λ i k at. cond-true (below k (v .said)) (learned O v i k) v (T .complete k (v .said) (true-here (Level k) at)))
 
   pub run-goes-back : RunGoesBack O below
   run-goes-back crew es i p h =

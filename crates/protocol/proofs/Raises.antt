@@ -3,15 +3,15 @@
 use mathlib.Core.Path.{_≡_, refl, sym, ap, subst, _∙_}
 use mathlib.Core.Logic.{_⊎_, inl, inr}
 use mathlib.Core.Bool.{Bool, true, false, cond}
-use mathlib.Core.List.{List, [], _∷_, _++_, List·Memᴰ, List·Memᴰ·head, List·Memᴰ·tail, List·Memᴰ·not-nil, List·Memᴰ·cases-cons}
+use mathlib.Core.List.{List, [], _∷_, _++_, List·Memᴰ, List·Memᴰ·head, List·Memᴰ·tail, List·Memᴰ·not-nil, List·Memᴰ·cases-cons, List·Memᴰ·append-cases, List·Memᴰ·eq-of-singleton}
 use Prim.Native.Nat.{ℕ}
-use Rattle.std.proofs.shelf.Tests.{cond-both, cond-true}
+use Rattle.std.proofs.shelf.Tests.{cond-both, cond-true, true≢false}
 use Rattle.protocol.specs.Order.{Order, Lawful, Truthful}
 use Rattle.protocol.specs.Fleet.{Machine, Promise, Level, World, put, noticed, start, promised, heardOf, decided, learned}
 use Rattle.protocol.specs.Promise.{Up}
 use Rattle.protocol.specs.Events.{Event, MakePromise, Tell, Hear, Decide, Announce, Learn, every, play, from, run, promising, learning, raise}
-use Rattle.protocol.specs.Runs.{Risen, RunRises, RunRisesOn}
-use Rattle.protocol.proofs.Puts.{put-each, put-here}
+use Rattle.protocol.specs.Runs.{Risen, RunRises, RunRisesOn, RaisePromises}
+use Rattle.protocol.proofs.Puts.{put-each, put-here, not-first}
 use Rattle.protocol.proofs.Sound.{up-then, up-same}
 use Rattle.protocol.proofs.Plays.{one-every, from-++, up-from}
 
@@ -107,7 +107,6 @@ module _ (O : Order) (L : Lawful O) (below : O .Form → O .Form → Bool) (T : 
   promising-heard k w v [] up new j on = absurd (List·Memᴰ·not-nil on)
   promising-heard k w v (i ∷ js) up new j on =
       let u : World Form = one k w v i in
-      let kept : Keeps v (ready k w v i) = ready-keeps k w v i in
       let here : k ⊑ u .heard i = told-heard k (ready k w v i) i (ready-floor k w v i up (new i (List·Memᴰ·head refl))) in
       let on-up : Up O u (from O below u (promising O below k w js)) = up-from O L below T u (promising O below k w js) in
       subst (λ (x : World Form). k ⊑ x .heard j) (sym (promising-from k w v i js))
@@ -162,3 +161,37 @@ module _ (O : Order) (L : Lawful O) (below : O .Form → O .Form → Bool) (T : 
   pub run-rises-on : RunRisesOn O below
   run-rises-on k crew es new =
       subst (λ (u : World Form). Risen O below k (run O below crew es) u) (sym (from-++ O L below T (start O crew) es (raise O below k (run O below crew es)))) (run-rises k (run O below crew es) new)
+
+  -- the promises among these events
+  pub promising-asks : (k : Form) (w : World Form) (js : List ℕ) (i : ℕ) (f : Form) → List·Memᴰ (MakePromise i f) (promising O below k w js) → (f ≡ k) × List·Memᴰ i js × (k ⊑ w .machine i .floor → ⊥)
+  promising-asks k w [] i f at = absurd (List·Memᴰ·not-nil at)
+  promising-asks k w (j ∷ js) i f at =
+      go (λ a. promising-asks k w js i f a) (List·Memᴰ·append-cases (cond (below k (w .machine j .floor)) [] (MakePromise j k ∷ [])) at)
+    where
+      Asked : Type 0
+      Asked = (f ≡ k) × List·Memᴰ i (j ∷ js) × (k ⊑ w .machine i .floor → ⊥)
+
+      mine : below k (w .machine j .floor) ≡ false → MakePromise i f ≡ MakePromise j k → Asked
+      mine low e =
+          let who : i ≡ j = cc in
+          let what : f ≡ k = cc in
+          (what, List·Memᴰ·head who, λ h. true≢false (sym (T .complete k (w .machine j .floor) (subst (λ (x : ℕ). k ⊑ w .machine x .floor) who h)) ∙ low))
+
+      go : (List·Memᴰ (MakePromise i f) (promising O below k w js) → (f ≡ k) × List·Memᴰ i js × (k ⊑ w .machine i .floor → ⊥)) → List·Memᴰ (MakePromise i f) (cond (below k (w .machine j .floor)) [] (MakePromise j k ∷ [])) ⊎ List·Memᴰ (MakePromise i f) (Tell j k ∷ Hear j k ∷ promising O below k w js) → Asked
+      go rest (inl a) =
+          cond-both (below k (w .machine j .floor)) [] (MakePromise j k ∷ []) (λ es. List·Memᴰ (MakePromise i f) es → Asked) (λ yes b. absurd (List·Memᴰ·not-nil b)) (λ low b. mine low (List·Memᴰ·eq-of-singleton b)) a
+      go rest (inr a) =
+          let r = rest (not-first (Hear j k) (MakePromise i f) (promising O below k w js) (λ e. true≢false cc) (not-first (Tell j k) (MakePromise i f) (Hear j k ∷ promising O below k w js) (λ e. true≢false cc) a)) in
+          (r .0, List·Memᴰ·tail (r .1), r .2)
+
+  pub learning-asks : (k : Form) (js : List ℕ) (i : ℕ) (f : Form) → List·Memᴰ (MakePromise i f) (learning O below k js) → ⊥
+  learning-asks k [] i f at = List·Memᴰ·not-nil at
+  learning-asks k (j ∷ js) i f at = learning-asks k js i f (not-first (Learn j k) (MakePromise i f) (learning O below k js) (λ e. true≢false cc) at)
+
+  pub raise-promises : RaisePromises O below
+  raise-promises k w i f at = go (List·Memᴰ·append-cases (promising O below k w (w .listed)) at)
+    where
+      go : List·Memᴰ (MakePromise i f) (promising O below k w (w .listed)) ⊎ List·Memᴰ (MakePromise i f) (Decide k ∷ Announce k ∷ learning O below k (w .listed)) → (f ≡ k) × List·Memᴰ i (w .listed) × (k ⊑ w .machine i .floor → ⊥)
+      go (inl a) = promising-asks k w (w .listed) i f a
+      go (inr a) =
+          absurd (learning-asks k (w .listed) i f (not-first (Announce k) (MakePromise i f) (learning O below k (w .listed)) (λ e. true≢false cc) (not-first (Decide k) (MakePromise i f) (Announce k ∷ learning O below k (w .listed)) (λ e. true≢false cc) a)))

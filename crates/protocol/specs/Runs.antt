@@ -7,9 +7,9 @@ use mathlib.Core.List.{List, [], _∷_, _++_, List·Memᴰ}
 use Prim.Native.Nat.{ℕ}
 use lib.Dec.{leb}
 use Rattle.protocol.specs.Order.{Order, Truthful, numbers}
-use Rattle.protocol.specs.Fleet.{Word, Promise, World, Step, Reach}
+use Rattle.protocol.specs.Fleet.{Word, Promise, Level, World, heardOf, learned, Step, Reach}
 use Rattle.protocol.specs.Promise.{Up}
-use Rattle.protocol.specs.Events.{Event, Run, MakePromise, Tell, play, from, run, raise}
+use Rattle.protocol.specs.Events.{Event, Run, MakePromise, Tell, Hear, Learn, play, from, run, raise}
 
 module _ (O : Order) (below : O .Form → O .Form → Bool) where
   open Order O using (Form, _⊑_)
@@ -41,6 +41,11 @@ module _ (O : Order) (below : O .Form → O .Form → Bool) where
   abbrev pub RunGrows : Type 0
   RunGrows = (crew : List ℕ) (es fs : List (Event Form)) → Up O (run O below crew es) (run O below crew (es ++ fs))
 
+  -- A notice that was sent is taken whenever it comes, whatever happened since: a promise by the harbour, a level by any machine.
+  abbrev pub RunTakes : Type 0
+  RunTakes =
+      (crew : List ℕ) (es fs : List (Event Form)) → ((i : ℕ) (f : Form) → List·Memᴰ (Promise i f) (run O below crew es .notices) → play O below (run O below crew (es ++ fs)) (Hear i f) ≡ heardOf O (run O below crew (es ++ fs)) i f) × ((i : ℕ) (k : Form) → List·Memᴰ (Level k) (run O below crew es .notices) → play O below (run O below crew (es ++ fs)) (Learn i k) ≡ learned O (run O below crew (es ++ fs)) i k)
+
   -- From the floor up any program can be run.
   abbrev pub RunGoesBack : Type 0
   RunGoesBack = (crew : List ℕ) (es : List (Event Form)) (i : ℕ) (p : Form) → run O below crew es .machine i .floor ⊑ p → run O below crew (es ++ (Run i p ∷ [])) .machine i .program ≡ p
@@ -60,6 +65,10 @@ module _ (O : Order) (below : O .Form → O .Form → Bool) where
   RunRisesOn =
       (k : Form) (crew : List ℕ) (es : List (Event Form)) → ((i : ℕ) → List·Memᴰ i (run O below crew es .listed) → k ⊑ run O below crew es .machine i .program) → Risen k (run O below crew es) (run O below crew (es ++ raise O below k (run O below crew es)))
 
+  -- These events ask for no promise that isn't needed: it is k, by one of the list whose floor in w is not there yet.
+  abbrev pub RaisePromises : Type 0
+  RaisePromises = (k : Form) (w : World Form) (i : ℕ) (f : Form) → List·Memᴰ (MakePromise i f) (raise O below k w) → (f ≡ k) × List·Memᴰ i (w .listed) × (k ⊑ w .machine i .floor → ⊥)
+
   -- all of them
   pub record Runs : Type 0 where
     pub playsByRules : PlaysByRules
@@ -68,9 +77,11 @@ module _ (O : Order) (below : O .Form → O .Form → Bool) where
     pub runUnderstood : RunUnderstood
     pub runLevelsHold : RunLevelsHold
     pub runGrows : RunGrows
+    pub runTakes : RunTakes
     pub runGoesBack : RunGoesBack
     pub runRises : RunRises
     pub runRisesOn : RunRisesOn
+    pub raisePromises : RaisePromises
 
 -- Of an order with any test that is right.
 abbrev pub RunsOf : Order → Type 0
