@@ -1,11 +1,10 @@
 -- All that is promised of events, for every order that keeps the laws and every test of it that is right; and computed runs.
 -- Assumes nothing.
 use mathlib.Core.Path.{refl}
-use mathlib.Core.Bool.{Bool}
 use lib.Dec.{leb}
 use Rattle.std.proofs.shelf.Tests.{leb-true, le-leb}
 use Rattle.protocol.specs.Order.{Order, Lawful, Truthful, numbers}
-use Rattle.protocol.specs.Runs.{Runs, RunsOf, ShownRises, ShownTells}
+use Rattle.protocol.specs.Runs.{RunsOf, ShownRises, ShownTells}
 use Rattle.protocol.proofs.Plays.{plays-by-rules, run-reaches, runs-all, run-understood, run-levels-hold, run-grows, run-takes, run-goes-back}
 use Rattle.protocol.proofs.Raises.{run-rises, run-rises-on, raise-promises}
 

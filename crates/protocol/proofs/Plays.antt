@@ -2,12 +2,12 @@
 -- Assumes nothing.
 use mathlib.Core.Path.{_≡_, refl, sym, ap, subst, _∙_}
 use mathlib.Core.Logic.{_⊎_, inl, inr, ⊎-elim}
-use mathlib.Core.Bool.{Bool, true, cond, _&&_, _||_}
+use mathlib.Core.Bool.{Bool, true, cond, _||_}
 use mathlib.Core.List.{List, [], _∷_, _++_, List·Memᴰ, List·Memᴰ·head, List·Memᴰ·tail, List·Memᴰ·not-nil}
 use Prim.Native.Nat.{ℕ}
 use Rattle.std.proofs.shelf.Tests.{cond-both, cond-true, and-parts, and-from, or-cases, or-left, or-right}
 use Rattle.protocol.specs.Order.{Order, Lawful, Truthful}
-use Rattle.protocol.specs.Fleet.{Machine, Word, Notice, Promise, Heard, Level, HasIt, World, running, wrote, refiled, noticed, talked, enlisted, start, promised, heardOf, decided, learned, Step, renews, goesBack, promises, tells, hears, confirms, lists, decides, announces, learns, answers, talks, writes, refiles, Reach, begin, then, Later, now, next}
+use Rattle.protocol.specs.Fleet.{Machine, Notice, Promise, Heard, Level, HasIt, World, running, wrote, refiled, noticed, talked, enlisted, start, promised, heardOf, decided, learned, Step, renews, goesBack, promises, tells, hears, confirms, lists, decides, announces, learns, answers, talks, writes, refiles, begin, then, Later, now, next}
 use Rattle.protocol.specs.Promise.{Holds, Up}
 use Rattle.protocol.specs.Events.{Event, Run, MakePromise, Tell, Hear, Confirm, Enlist, Decide, Announce, Learn, Answer, Talk, Write, Refile, every, play, from, run}
 use Rattle.protocol.specs.Runs.{PlaysByRules, RunReaches, RunsAll, RunUnderstood, RunLevelsHold, RunGrows, RunTakes, RunGoesBack}

@@ -7,9 +7,9 @@ use mathlib.Core.List.{List, [], _∷_, _++_, List·Memᴰ, List·Memᴰ·head, 
 use Prim.Native.Nat.{ℕ}
 use Rattle.std.proofs.shelf.Tests.{cond-both, cond-true, true≢false}
 use Rattle.protocol.specs.Order.{Order, Lawful, Truthful}
-use Rattle.protocol.specs.Fleet.{Machine, Promise, Level, World, put, noticed, start, promised, heardOf, decided, learned}
+use Rattle.protocol.specs.Fleet.{Machine, Promise, Level, World, noticed, start, promised, heardOf, decided, learned}
 use Rattle.protocol.specs.Promise.{Up}
-use Rattle.protocol.specs.Events.{Event, MakePromise, Tell, Hear, Decide, Announce, Learn, every, play, from, run, promising, learning, raise}
+use Rattle.protocol.specs.Events.{MakePromise, Tell, Hear, Decide, Announce, Learn, every, play, from, run, promising, learning, raise}
 use Rattle.protocol.specs.Runs.{Risen, RunRises, RunRisesOn, RaisePromises}
 use Rattle.protocol.proofs.Puts.{put-each, put-here, not-first}
 use Rattle.protocol.proofs.Sound.{up-then, up-same}
