@@ -9,7 +9,7 @@ use Rattle.std.proofs.shelf.Tests.{cond-both, cond-true, and-parts, and-from, o
 use Rattle.protocol.specs.Order.{Order, Lawful, Truthful}
 use Rattle.protocol.specs.Fleet.{Machine, Notice, Promise, Heard, Level, HasIt, World, running, wrote, refiled, noticed, talked, enlisted, start, promised, heardOf, decided, learned, Step, renews, goesBack, promises, tells, hears, confirms, lists, decides, announces, learns, answers, talks, writes, refiles, begin, then, Later, now, next}
 use Rattle.protocol.specs.Promise.{Holds, Up}
-use Rattle.protocol.specs.Events.{Event, Run, MakePromise, Tell, Hear, Confirm, Enlist, Decide, Announce, Learn, Answer, Talk, Write, Refile, every, play, from, run}
+use Rattle.protocol.specs.Events.{Event, Run, MakePromise, Tell, Hear, Confirm, Enlist, Decide, Announce, Learn, Answer, Talk, Write, Refile, every, play, after, run}
 use Rattle.protocol.specs.Runs.{PlaysByRules, RunReaches, RunsAll, RunUnderstood, RunLevelsHold, RunGrows, RunTakes, RunGoesBack}
 use Rattle.protocol.proofs.Puts.{put-here, one-more}
 use Rattle.protocol.proofs.Sound.{reach-later, grows, understood, levels-hold, backed, stable}
@@ -74,9 +74,9 @@ module _ (O : Order) (L : Lawful O) (below : O .Form → O .Form → Bool) (T : 
   step-event (refiles w i fs h) =
       (Refile i fs, cond-true (every (λ f. below f (w .machine i .level)) fs) (refiled w i fs) w (one-every (λ f. below f (w .machine i .level)) fs (λ f at. T .complete f (w .machine i .level) (h f at))))
 
-  pub from-++ : (w : World Form) (xs ys : List (Event Form)) → from O below w (xs ++ ys) ≡ from O below (from O below w xs) ys
-  from-++ w [] ys = refl
-  from-++ w (x ∷ xs) ys = from-++ (play O below w x) xs ys
+  pub after-++ : (w : World Form) (xs ys : List (Event Form)) → after O below w (xs ++ ys) ≡ after O below (after O below w xs) ys
+  after-++ w [] ys = refl
+  after-++ w (x ∷ xs) ys = after-++ (play O below w x) xs ys
 
   -- events lead to a later world
   pub later-then : {u w v : World Form} → Later O u w → Later O w v → Later O u v
@@ -90,33 +90,31 @@ module _ (O : Order) (L : Lawful O) (below : O .Form → O .Form → Bool) (T : 
       go (inl s) = next now s
       go (inr q) = subst (λ (v : World Form). Later O w v) (sym q) now
 
-  pub later-from : (w : World Form) (es : List (Event Form)) → Later O w (from O below w es)
-  later-from w [] = now
-  later-from w (e ∷ es) = later-then (later-play w e) (later-from (play O below w e) es)
+  pub later-after : (w : World Form) (es : List (Event Form)) → Later O w (after O below w es)
+  later-after w [] = now
+  later-after w (e ∷ es) = later-then (later-play w e) (later-after (play O below w e) es)
 
-  pub up-from : (w : World Form) (es : List (Event Form)) → Up O w (from O below w es)
-  up-from w es = grows O L w (from O below w es) (later-from w es)
+  pub up-after : (w : World Form) (es : List (Event Form)) → Up O w (after O below w es)
+  up-after w es = grows O L w (after O below w es) (later-after w es)
 
   pub run-reaches : RunReaches O below
-  run-reaches crew es = reach-later O L (begin crew) (later-from (start O crew) es)
+  run-reaches crew es = reach-later O L (begin crew) (later-after (start O crew) es)
 
   pub runs-all : RunsAll O below
   runs-all w (begin crew) = (crew, [], refl)
   runs-all w (then {w = u} r s) =
       let p : (crew : List ℕ) × (es : List (Event Form)) × (run O below crew es ≡ u) = runs-all u r in
       let e : (e : Event Form) × (play O below u e ≡ w) = step-event s in
-      (p .0, p .1 ++ (e .0 ∷ []), from-++ (start O (p .0)) (p .1) (e .0 ∷ []) ∙ ap (λ (x : World Form). play O below x (e .0)) (p .2) ∙ e .1)
+      (p .0, p .1 ++ (e .0 ∷ []), after-++ (start O (p .0)) (p .1) (e .0 ∷ []) ∙ ap (λ (x : World Form). play O below x (e .0)) (p .2) ∙ e .1)
 
   pub run-understood : RunUnderstood O below
   run-understood crew es i on = understood O L (run O below crew es) (run-reaches crew es) i on
 
   pub run-levels-hold : RunLevelsHold O below
-  run-levels-hold crew es i j on =
-      let h = levels-hold O L (run O below crew es) (run-reaches crew es) i j on in
-      (h .0, h .1, h .3)
+  run-levels-hold crew es i j on = levels-hold O L (run O below crew es) (run-reaches crew es) i j on
 
   pub run-grows : RunGrows O below
-  run-grows crew es fs = subst (λ (v : World Form). Up O (run O below crew es) v) (sym (from-++ (start O crew) es fs)) (up-from (run O below crew es) fs)
+  run-grows crew es fs = subst (λ (v : World Form). Up O (run O below crew es) v) (sym (after-++ (start O crew) es fs)) (up-after (run O below crew es) fs)
 
   pub run-takes : RunTakes O below
   run-takes crew es fs =
@@ -130,4 +128,4 @@ module _ (O : Order) (L : Lawful O) (below : O .Form → O .Form → Bool) (T : 
   run-goes-back crew es i p h =
       let w : World Form = run O below crew es in
       let ran : play O below w (Run i p) ≡ running w i p = cond-true (below (w .machine i .program) p || below (w .machine i .floor) p) (running w i p) w (or-right (below (w .machine i .program) p) (below (w .machine i .floor) p) (T .complete (w .machine i .floor) p h)) in
-      ap (λ (u : World Form). u .machine i .program) (from-++ (start O crew) es (Run i p ∷ []) ∙ ran) ∙ ap (λ (m : Machine Form). m .program) (put-here i _ (w .machine))
+      ap (λ (u : World Form). u .machine i .program) (after-++ (start O crew) es (Run i p ∷ []) ∙ ran) ∙ ap (λ (m : Machine Form). m .program) (put-here i _ (w .machine))

@@ -9,11 +9,11 @@ use Rattle.std.proofs.shelf.Tests.{cond-both, cond-true, true≢false}
 use Rattle.protocol.specs.Order.{Order, Lawful, Truthful}
 use Rattle.protocol.specs.Fleet.{Machine, Promise, Level, World, noticed, start, promised, heardOf, decided, learned}
 use Rattle.protocol.specs.Promise.{Up}
-use Rattle.protocol.specs.Events.{MakePromise, Tell, Hear, Decide, Announce, Learn, every, play, from, run, promising, learning, raise}
+use Rattle.protocol.specs.Events.{MakePromise, Tell, Hear, Decide, Announce, Learn, every, play, after, run, promising, learning, raise}
 use Rattle.protocol.specs.Runs.{Risen, RunRises, RunRisesOn, RaisePromises}
 use Rattle.protocol.proofs.Puts.{put-each, put-here, not-first}
 use Rattle.protocol.proofs.Sound.{up-then, up-same}
-use Rattle.protocol.proofs.Plays.{one-every, from-++, up-from}
+use Rattle.protocol.proofs.Plays.{one-every, after-++, up-after}
 
 -- programs and list are as they were
 pub record Keeps {F : Type 0} (w v : World F) : Type 0 where
@@ -56,14 +56,14 @@ module _ (O : Order) (L : Lawful O) (below : O .Form → O .Form → Bool) (T : 
 
   -- one promises, if it has to: then its floor is high enough
   abbrev pub ready : Form → World Form → World Form → ℕ → World Form
-  ready k w v i = from O below v (cond (below k (w .machine i .floor)) [] (MakePromise i k ∷ []))
+  ready k w v i = after O below v (cond (below k (w .machine i .floor)) [] (MakePromise i k ∷ []))
 
   pub ready-keeps : (k : Form) (w v : World Form) (i : ℕ) → Keeps v (ready k w v i)
-  ready-keeps k w v i = cond-both (below k (w .machine i .floor)) [] (MakePromise i k ∷ []) (λ es. Keeps v (from O below v es)) (λ e. keeps-same v) (λ e. keeps-promise v i k)
+  ready-keeps k w v i = cond-both (below k (w .machine i .floor)) [] (MakePromise i k ∷ []) (λ es. Keeps v (after O below v es)) (λ e. keeps-same v) (λ e. keeps-promise v i k)
 
   pub ready-floor : (k : Form) (w v : World Form) (i : ℕ) → Up O w v → k ⊑ v .machine i .program → k ⊑ ready k w v i .machine i .floor
   ready-floor k w v i up new =
-      cond-both (below k (w .machine i .floor)) [] (MakePromise i k ∷ []) (λ es. k ⊑ from O below v es .machine i .floor)
+      cond-both (below k (w .machine i .floor)) [] (MakePromise i k ∷ []) (λ es. k ⊑ after O below v es .machine i .floor)
       (λ e. L .chain k (w .machine i .floor) (v .machine i .floor) (T .sound k (w .machine i .floor) e) (up .floor i))
       (λ e. subst (λ (u : World Form). k ⊑ u .machine i .floor) (sym (cond-true (below k (v .machine i .program)) (promised O v i k) v (T .complete k (v .machine i .program) new)))
       (subst (λ (m : Machine Form). k ⊑ m .floor) (sym (put-here i _ (v .machine))) (L .right (v .machine i .floor) k)))
@@ -92,51 +92,51 @@ module _ (O : Order) (L : Lawful O) (below : O .Form → O .Form → Bool) (T : 
 
   pub one-up : (k : Form) (w v : World Form) (i : ℕ) → Up O v (one k w v i)
   one-up k w v i =
-      up-then O L v (ready k w v i) (one k w v i) (up-from O L below T v (cond (below k (w .machine i .floor)) [] (MakePromise i k ∷ []))) (up-from O L below T (ready k w v i) (Tell i k ∷ Hear i k ∷ []))
+      up-then O L v (ready k w v i) (one k w v i) (up-after O L below T v (cond (below k (w .machine i .floor)) [] (MakePromise i k ∷ []))) (up-after O L below T (ready k w v i) (Tell i k ∷ Hear i k ∷ []))
 
-  pub promising-from : (k : Form) (w v : World Form) (i : ℕ) (js : List ℕ) → from O below v (promising O below k w (i ∷ js)) ≡ from O below (one k w v i) (promising O below k w js)
-  promising-from k w v i js = from-++ O L below T v (cond (below k (w .machine i .floor)) [] (MakePromise i k ∷ [])) (Tell i k ∷ Hear i k ∷ promising O below k w js)
+  pub promising-after : (k : Form) (w v : World Form) (i : ℕ) (js : List ℕ) → after O below v (promising O below k w (i ∷ js)) ≡ after O below (one k w v i) (promising O below k w js)
+  promising-after k w v i js = after-++ O L below T v (cond (below k (w .machine i .floor)) [] (MakePromise i k ∷ [])) (Tell i k ∷ Hear i k ∷ promising O below k w js)
 
-  pub promising-keeps : (k : Form) (w v : World Form) (js : List ℕ) → Keeps v (from O below v (promising O below k w js))
+  pub promising-keeps : (k : Form) (w v : World Form) (js : List ℕ) → Keeps v (after O below v (promising O below k w js))
   promising-keeps k w v [] = keeps-same v
   promising-keeps k w v (i ∷ js) =
-      subst (λ (u : World Form). Keeps v u) (sym (promising-from k w v i js))
-      (keeps-then v (one k w v i) (from O below (one k w v i) (promising O below k w js)) (one-keeps k w v i) (promising-keeps k w (one k w v i) js))
+      subst (λ (u : World Form). Keeps v u) (sym (promising-after k w v i js))
+      (keeps-then v (one k w v i) (after O below (one k w v i) (promising O below k w js)) (one-keeps k w v i) (promising-keeps k w (one k w v i) js))
 
-  pub promising-heard : (k : Form) (w v : World Form) (js : List ℕ) → Up O w v → ((j : ℕ) → List·Memᴰ j js → k ⊑ v .machine j .program) → (j : ℕ) → List·Memᴰ j js → k ⊑ from O below v (promising O below k w js) .heard j
+  pub promising-heard : (k : Form) (w v : World Form) (js : List ℕ) → Up O w v → ((j : ℕ) → List·Memᴰ j js → k ⊑ v .machine j .program) → (j : ℕ) → List·Memᴰ j js → k ⊑ after O below v (promising O below k w js) .heard j
   promising-heard k w v [] up new j on = absurd (List·Memᴰ·not-nil on)
   promising-heard k w v (i ∷ js) up new j on =
       let u : World Form = one k w v i in
       let here : k ⊑ u .heard i = told-heard k (ready k w v i) i (ready-floor k w v i up (new i (List·Memᴰ·head refl))) in
-      let on-up : Up O u (from O below u (promising O below k w js)) = up-from O L below T u (promising O below k w js) in
-      subst (λ (x : World Form). k ⊑ x .heard j) (sym (promising-from k w v i js))
+      let on-up : Up O u (after O below u (promising O below k w js)) = up-after O L below T u (promising O below k w js) in
+      subst (λ (x : World Form). k ⊑ x .heard j) (sym (promising-after k w v i js))
       (go u here on-up
       (λ at. promising-heard k w u js (up-then O L w v u up (one-up k w v i)) (λ m in-js. subst (λ (p : Form). k ⊑ p) (sym (one-keeps k w v i .program m)) (new m (List·Memᴰ·tail in-js))) j at)
       (List·Memᴰ·cases-cons on))
     where
-      go : (u : World Form) → k ⊑ u .heard i → Up O u (from O below u (promising O below k w js)) → (List·Memᴰ j js → k ⊑ from O below u (promising O below k w js) .heard j) → (j ≡ i) ⊎ List·Memᴰ j js → k ⊑ from O below u (promising O below k w js) .heard j
-      go u here on-up rest (inl e) = subst (λ (x : ℕ). k ⊑ from O below u (promising O below k w js) .heard x) (sym e) (L .chain k (u .heard i) (from O below u (promising O below k w js) .heard i) here (on-up .heard i))
+      go : (u : World Form) → k ⊑ u .heard i → Up O u (after O below u (promising O below k w js)) → (List·Memᴰ j js → k ⊑ after O below u (promising O below k w js) .heard j) → (j ≡ i) ⊎ List·Memᴰ j js → k ⊑ after O below u (promising O below k w js) .heard j
+      go u here on-up rest (inl e) = subst (λ (x : ℕ). k ⊑ after O below u (promising O below k w js) .heard x) (sym e) (L .chain k (u .heard i) (after O below u (promising O below k w js) .heard i) here (on-up .heard i))
       go u here on-up rest (inr at) = rest at
 
-  pub learning-keeps : (k : Form) (v : World Form) (js : List ℕ) → Keeps v (from O below v (learning O below k js))
+  pub learning-keeps : (k : Form) (v : World Form) (js : List ℕ) → Keeps v (after O below v (learning O below k js))
   learning-keeps k v [] = keeps-same v
-  learning-keeps k v (i ∷ js) = keeps-then v (play O below v (Learn i k)) (from O below (play O below v (Learn i k)) (learning O below k js)) (keeps-learn v i k) (learning-keeps k (play O below v (Learn i k)) js)
+  learning-keeps k v (i ∷ js) = keeps-then v (play O below v (Learn i k)) (after O below (play O below v (Learn i k)) (learning O below k js)) (keeps-learn v i k) (learning-keeps k (play O below v (Learn i k)) js)
 
   pub learn-level : (k : Form) (v : World Form) (i : ℕ) → k ⊑ v .said → k ⊑ play O below v (Learn i k) .machine i .level
   learn-level k v i h =
       subst (λ (u : World Form). k ⊑ u .machine i .level) (sym (cond-true (below k (v .said)) (learned O v i k) v (T .complete k (v .said) h)))
       (subst (λ (m : Machine Form). k ⊑ m .level) (sym (put-here i _ (v .machine))) (L .right (v .machine i .level) k))
 
-  pub learning-level : (k : Form) (v : World Form) (js : List ℕ) → k ⊑ v .said → (j : ℕ) → List·Memᴰ j js → k ⊑ from O below v (learning O below k js) .machine j .level
+  pub learning-level : (k : Form) (v : World Form) (js : List ℕ) → k ⊑ v .said → (j : ℕ) → List·Memᴰ j js → k ⊑ after O below v (learning O below k js) .machine j .level
   learning-level k v [] said j on = absurd (List·Memᴰ·not-nil on)
   learning-level k v (i ∷ js) said j on =
       let u : World Form = play O below v (Learn i k) in
-      go u (learn-level k v i said) (up-from O L below T u (learning O below k js))
-      (λ at. learning-level k u js (L .chain k (v .said) (u .said) said (up-from O L below T v (Learn i k ∷ []) .said)) j at)
+      go u (learn-level k v i said) (up-after O L below T u (learning O below k js))
+      (λ at. learning-level k u js (L .chain k (v .said) (u .said) said (up-after O L below T v (Learn i k ∷ []) .said)) j at)
       (List·Memᴰ·cases-cons on)
     where
-      go : (u : World Form) → k ⊑ u .machine i .level → Up O u (from O below u (learning O below k js)) → (List·Memᴰ j js → k ⊑ from O below u (learning O below k js) .machine j .level) → (j ≡ i) ⊎ List·Memᴰ j js → k ⊑ from O below u (learning O below k js) .machine j .level
-      go u here on-up rest (inl e) = subst (λ (x : ℕ). k ⊑ from O below u (learning O below k js) .machine x .level) (sym e) (L .chain k (u .machine i .level) (from O below u (learning O below k js) .machine i .level) here (on-up .level i))
+      go : (u : World Form) → k ⊑ u .machine i .level → Up O u (after O below u (learning O below k js)) → (List·Memᴰ j js → k ⊑ after O below u (learning O below k js) .machine j .level) → (j ≡ i) ⊎ List·Memᴰ j js → k ⊑ after O below u (learning O below k js) .machine j .level
+      go u here on-up rest (inl e) = subst (λ (x : ℕ). k ⊑ after O below u (learning O below k js) .machine x .level) (sym e) (L .chain k (u .machine i .level) (after O below u (learning O below k js) .machine i .level) here (on-up .level i))
       go u here on-up rest (inr at) = rest at
 
   -- the harbour decides for what all of the list have promised
@@ -147,20 +147,20 @@ module _ (O : Order) (L : Lawful O) (below : O .Form → O .Form → Bool) (T : 
 
   pub run-rises : RunRises O below
   run-rises k w new =
-      let v : World Form = from O below w (promising O below k w (w .listed)) in
+      let v : World Form = after O below w (promising O below k w (w .listed)) in
       let d : World Form = play O below v (Decide k) in
       let a : World Form = play O below d (Announce k) in
-      let u : World Form = from O below a (learning O below k (w .listed)) in
+      let u : World Form = after O below a (learning O below k (w .listed)) in
       let first : Keeps w v = promising-keeps k w w (w .listed) in
       let heard : (j : ℕ) → List·Memᴰ j (v .listed) → k ⊑ v .heard j = λ j on. promising-heard k w w (w .listed) (up-same O L w) new j (subst (λ (js : List ℕ). List·Memᴰ j js) (first .listed) on) in
-      let said : k ⊑ a .said = L .chain k (d .said) (a .said) (decide-said k v heard) (up-from O L below T d (Announce k ∷ []) .said) in
+      let said : k ⊑ a .said = L .chain k (d .said) (a .said) (decide-said k v heard) (up-after O L below T d (Announce k ∷ []) .said) in
       let kept : Keeps w u = keeps-then w v u first (keeps-then v d u (keeps-decide v k) (keeps-then d a u (keeps-announce d k) (learning-keeps k a (w .listed)))) in
-      subst (λ (x : World Form). Risen O below k w x) (sym (from-++ O L below T w (promising O below k w (w .listed)) (Decide k ∷ Announce k ∷ learning O below k (w .listed))))
+      subst (λ (x : World Form). Risen O below k w x) (sym (after-++ O L below T w (promising O below k w (w .listed)) (Decide k ∷ Announce k ∷ learning O below k (w .listed))))
       (record { level = learning-level k a (w .listed) said; program = kept .program; listed = kept .listed })
 
   pub run-rises-on : RunRisesOn O below
   run-rises-on k crew es new =
-      subst (λ (u : World Form). Risen O below k (run O below crew es) u) (sym (from-++ O L below T (start O crew) es (raise O below k (run O below crew es)))) (run-rises k (run O below crew es) new)
+      subst (λ (u : World Form). Risen O below k (run O below crew es) u) (sym (after-++ O L below T (start O crew) es (raise O below k (run O below crew es)))) (run-rises k (run O below crew es) new)
 
   -- the promises among these events
   pub promising-asks : (k : Form) (w : World Form) (js : List ℕ) (i : ℕ) (f : Form) → List·Memᴰ (MakePromise i f) (promising O below k w js) → (f ≡ k) × List·Memᴰ i js × (k ⊑ w .machine i .floor → ⊥)

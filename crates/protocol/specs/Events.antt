@@ -48,13 +48,13 @@ module _ (O : Order) (below : O .Form → O .Form → Bool) where
   play w (Refile i fs) = cond (every (λ f. below f (w .machine i .level)) fs) (refiled w i fs) w
 
   -- the world after some events, the first of the list first
-  abbrev pub from : World Form → List (Event Form) → World Form
-  from w [] = w
-  from w (e ∷ es) = from (play w e) es
+  abbrev pub after : World Form → List (Event Form) → World Form
+  after w [] = w
+  after w (e ∷ es) = after (play w e) es
 
   -- from the start, with the crew on the list
   abbrev pub run : List ℕ → List (Event Form) → World Form
-  run crew es = from (start O crew) es
+  run crew es = after (start O crew) es
 
   -- How to raise the level. First each promises k, where its floor in w is not there yet, tells it and is heard
   abbrev pub promising : Form → World Form → List ℕ → List (Event Form)

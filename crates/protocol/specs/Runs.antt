@@ -7,9 +7,9 @@ use mathlib.Core.List.{List, [], _∷_, _++_, List·Memᴰ}
 use Prim.Native.Nat.{ℕ}
 use lib.Dec.{leb}
 use Rattle.protocol.specs.Order.{Order, Truthful, numbers}
-use Rattle.protocol.specs.Fleet.{Word, Promise, Level, World, heardOf, learned, Step, Reach}
-use Rattle.protocol.specs.Promise.{Up}
-use Rattle.protocol.specs.Events.{Event, Run, MakePromise, Tell, Hear, Learn, play, from, run, raise}
+use Rattle.protocol.specs.Fleet.{Promise, Level, World, heardOf, learned, Step, Reach}
+use Rattle.protocol.specs.Promise.{Up, Reads, InOrder}
+use Rattle.protocol.specs.Events.{Event, Run, MakePromise, Tell, Hear, Learn, play, after, run, raise}
 
 module _ (O : Order) (below : O .Form → O .Form → Bool) where
   open Order O using (Form, _⊑_)
@@ -29,13 +29,11 @@ module _ (O : Order) (below : O .Form → O .Form → Bool) where
 
   -- Whatever happens, each of the list can read every word to it, and its own file.
   abbrev pub RunUnderstood : Type 0
-  RunUnderstood =
-      (crew : List ℕ) (es : List (Event Form)) (i : ℕ) → List·Memᴰ i (run O below crew es .listed) → ((m : Word Form) → List·Memᴰ m (run O below crew es .words) → m .to ≡ i → m .form ⊑ run O below crew es .machine i .program) × ((f : Form) → List·Memᴰ f (run O below crew es .machine i .file) → f ⊑ run O below crew es .machine i .program)
+  RunUnderstood = (crew : List ℕ) (es : List (Event Form)) (i : ℕ) → List·Memᴰ i (run O below crew es .listed) → Reads O (run O below crew es) i
 
   -- Nobody uses what wasn't said, and nothing was said that one of the list could undo.
   abbrev pub RunLevelsHold : Type 0
-  RunLevelsHold =
-      (crew : List ℕ) (es : List (Event Form)) (i j : ℕ) → List·Memᴰ j (run O below crew es .listed) → (run O below crew es .machine i .level ⊑ run O below crew es .said) × (run O below crew es .said ⊑ run O below crew es .machine j .floor) × (run O below crew es .machine i .floor ⊑ run O below crew es .machine i .program)
+  RunLevelsHold = (crew : List ℕ) (es : List (Event Form)) (i j : ℕ) → List·Memᴰ j (run O below crew es .listed) → InOrder O (run O below crew es) i j
 
   -- What was promised, heard, said or allowed is never taken back by more events.
   abbrev pub RunGrows : Type 0
@@ -44,7 +42,9 @@ module _ (O : Order) (below : O .Form → O .Form → Bool) where
   -- A notice that was sent is taken whenever it comes, whatever happened since: a promise by the harbour, a level by any machine.
   abbrev pub RunTakes : Type 0
   RunTakes =
-      (crew : List ℕ) (es fs : List (Event Form)) → ((i : ℕ) (f : Form) → List·Memᴰ (Promise i f) (run O below crew es .notices) → play O below (run O below crew (es ++ fs)) (Hear i f) ≡ heardOf O (run O below crew (es ++ fs)) i f) × ((i : ℕ) (k : Form) → List·Memᴰ (Level k) (run O below crew es .notices) → play O below (run O below crew (es ++ fs)) (Learn i k) ≡ learned O (run O below crew (es ++ fs)) i k)
+      (crew : List ℕ) (es fs : List (Event Form)) →
+      let v : World Form = run O below crew (es ++ fs) in
+      ((i : ℕ) (f : Form) → List·Memᴰ (Promise i f) (run O below crew es .notices) → play O below v (Hear i f) ≡ heardOf O v i f) × ((i : ℕ) (k : Form) → List·Memᴰ (Level k) (run O below crew es .notices) → play O below v (Learn i k) ≡ learned O v i k)
 
   -- From the floor up any program can be run.
   abbrev pub RunGoesBack : Type 0
@@ -58,12 +58,14 @@ module _ (O : Order) (below : O .Form → O .Form → Bool) where
 
   -- The events of raise bring all of the list to k, if all run what can do k.
   abbrev pub RunRises : Type 0
-  RunRises = (k : Form) (w : World Form) → ((i : ℕ) → List·Memᴰ i (w .listed) → k ⊑ w .machine i .program) → Risen k w (from O below w (raise O below k w))
+  RunRises = (k : Form) (w : World Form) → ((i : ℕ) → List·Memᴰ i (w .listed) → k ⊑ w .machine i .program) → Risen k w (after O below w (raise O below k w))
 
   -- The same of lists of events alone: whatever has happened, there is a way on.
   abbrev pub RunRisesOn : Type 0
   RunRisesOn =
-      (k : Form) (crew : List ℕ) (es : List (Event Form)) → ((i : ℕ) → List·Memᴰ i (run O below crew es .listed) → k ⊑ run O below crew es .machine i .program) → Risen k (run O below crew es) (run O below crew (es ++ raise O below k (run O below crew es)))
+      (k : Form) (crew : List ℕ) (es : List (Event Form)) →
+      let w : World Form = run O below crew es in
+      ((i : ℕ) → List·Memᴰ i (w .listed) → k ⊑ w .machine i .program) → Risen k w (run O below crew (es ++ raise O below k w))
 
   -- These events ask for no promise that isn't needed: it is k, by one of the list whose floor in w is not there yet.
   abbrev pub RaisePromises : Type 0
