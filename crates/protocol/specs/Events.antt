@@ -6,8 +6,9 @@ use Prim.Native.Nat.{ℕ}
 use Rattle.protocol.specs.Order.{Order}
 use Rattle.protocol.specs.Fleet.{Word, Promise, Heard, Level, HasIt, World, running, wrote, refiled, noticed, talked, enlisted, start, promised, heardOf, decided, learned}
 
--- One for each step; a program is run by one event, whether it is newer or older
+-- One for each step, by machine i or about it; the harbour hears, confirms, enlists, decides and announces
 pub data Event (F : Type 0) : Type 0 where
+  -- a newer program, or an older one
   Run : (i : ℕ) (program : F) → Event F
   MakePromise : (i : ℕ) (floor : F) → Event F
   Tell : (i : ℕ) (floor : F) → Event F
