@@ -27,12 +27,14 @@ use Rattle.protocol.proofs.Puts.{put-each, put-here}
 use Rattle.protocol.proofs.Sound.{reach-later}
 use Rattle.protocol.proofs.Orders.{numbers-lawful}
 use Rattle.protocol.proofs.All.{always}
+use Rattle.protocol.proofs.Parts.{higher-top, after-start}
 use Rattle.rehearsal.specs.declared.messages.Word.{Word}
 use Rattle.rehearsal.specs.declared.messages.Notice.{Notice}
 use Rattle.rehearsal.specs.Worlds.{World, BoatState, begun, placeOf, stateAt, at, moored, noticed, spoken, telling, opening, opened, vowed, assured}
 use Rattle.rehearsal.specs.Worlds as spec
 use Rattle.rehearsal.specs.Abstract.{seen, boatOf, heardOf, machineOf, noticeOf, abs}
 use Rattle.rehearsal.specs.Abstract as abstract
+use Rattle.rehearsal.proofs.Sent.{mem-push}
 use Rattle.rehearsal.proofs.Abs.{higher-max, place-moored, boat-moored, abs-moored, abs-noticed, abs-spoken}
 
 -- crew: who is on the list, in the order of coming onto it. A floor that was answered is in the ledger, and words are in forms that there are
@@ -105,3 +107,93 @@ made-renewing w b to r = made-at Ruled (placeOf w b) (λ i. opened w i b (renewe
         cond-both (leb (stateAt w i .standing .program) to) (Ok (running (stateAt w i .standing) to)) (Err Bad) (λ (x : Result Boat Verdict). Made Ruled (opened w i b x))
         (λ t. ruled-opening w b i (running (stateAt w i .standing) to) r e (subst (λ (s : BoatState). s .standing .program ≤ to → Later numbers (abs (r .crew) w) (fleet.machined (abs (r .crew) w) b (machineOf (running (s .standing) to)))) (boat-is w b i e) (λ h. next now (renews (abs (r .crew) w) b to h)) (leb-true (stateAt w i .standing .program) to t)))
         (λ t. tt)
+
+pub made-going-back : (w : World) (b to : ℕ) → Ruled w → Made Ruled (spec.goingBack w b to)
+made-going-back w b to r = made-at Ruled (placeOf w b) (λ i. opened w i b (goneBack (stateAt w i .standing) to)) (λ i e. go i e)
+  where
+    go : (i : ℕ) → placeOf w b ≡ Some i → Made Ruled (opened w i b (goneBack (stateAt w i .standing) to))
+    go i e =
+        let P : Result Boat Verdict → Type 0 = λ x. Made Ruled (opened w i b x) in
+        cond-both (ltb to (stateAt w i .standing .program)) (cond (leb (stateAt w i .standing .floor) to) (Ok (running (stateAt w i .standing) to)) (Err (Number 3))) (Err Bad) P
+        (λ _. cond-both (leb (stateAt w i .standing .floor) to) (Ok (running (stateAt w i .standing) to)) (Err (Number 3)) P
+        (λ t. ruled-opening w b i (running (stateAt w i .standing) to) r e (subst (λ (s : BoatState). s .standing .floor ≤ to → Later numbers (abs (r .crew) w) (fleet.machined (abs (r .crew) w) b (machineOf (running (s .standing) to)))) (boat-is w b i e) (λ h. next now (goesBack (abs (r .crew) w) b to h)) (leb-true (stateAt w i .standing .floor) to t)))
+        (λ _. tt))
+        (λ _. tt)
+
+-- a boat as it was: the same program is one at least as new
+pub same-machine : (w : World) (r : Ruled w) (b : ℕ) (s : BoatState) → boatOf w b ≡ s → Later numbers (abs (r .crew) w) (fleet.machined (abs (r .crew) w) b (machineOf (s .standing)))
+same-machine w r b s e = subst (λ (x : BoatState). Later numbers (abs (r .crew) w) (fleet.machined (abs (r .crew) w) b (machineOf (x .standing)))) e (next now (renews (abs (r .crew) w) b (boatOf w b .standing .program) (omega arith)))
+
+pub made-restarting : (w : World) (b : ℕ) → Ruled w → Made Ruled (spec.restarting w b)
+made-restarting w b r = made-at Ruled (placeOf w b) (λ i. Ok (opening w i b (stateAt w i .standing))) (λ i e. ruled-opening w b i (stateAt w i .standing) r e (same-machine w r b (stateAt w i) (boat-is w b i e)))
+
+-- a boat promises what it runs
+vow-machine : (w : World) (r : Ruled w) (b : ℕ) (s : BoatState) → boatOf w b ≡ s → Later numbers (abs (r .crew) w) (fleet.machined (abs (r .crew) w) b (machineOf (boat.promised (s .standing))))
+vow-machine w r b s e =
+    let x : Boat = boatOf w b .standing in
+    let F : ℕ → fleet.World ℕ = λ f. fleet.machined (abs (r .crew) w) b (record { program = x .program; floor = f; level = x .level; file = [] }) in
+    subst (λ (y : BoatState). Later numbers (abs (r .crew) w) (fleet.machined (abs (r .crew) w) b (machineOf (boat.promised (y .standing))))) e
+    (subst (λ (f : ℕ). Later numbers (abs (r .crew) w) (F f)) (higher-top (x .floor) (x .program) (floor-program w r b)) (next now (promises (abs (r .crew) w) b (x .program) (omega arith))))
+
+ruled-vowed : (w : World) (b i : ℕ) (s : BoatState) (r : Ruled w) → placeOf w b ≡ Some i → boatOf w b ≡ s → Ruled (noticed (moored w i (vowed s)) (telling b (s .standing .program)))
+ruled-vowed w b i s r e q =
+    let old : s .answered ≡ true → s .standing .floor ≤ heardOf w b = subst (λ (x : BoatState). x .answered ≡ true → x .standing .floor ≤ heardOf w b) q (r .answered b) in
+    let m : Ruled (moored w i (vowed s)) = ruled-moored w b i (vowed s) r e (vow-machine w r b s q) (λ t. kept old (and-parts (s .answered) (leb (s .standing .program) (s .standing .floor)) t)) in
+    let h : boatOf (moored w i (vowed s)) b ≡ vowed s = boat-moored w b i (vowed s) e b ∙ put-here b (vowed s) (boatOf w) in
+    ruled-noticed (moored w i (vowed s)) (telling b (s .standing .program)) m (tells (abs (m .crew) (moored w i (vowed s))) b (s .standing .program) (omega (arith, ap (λ (x : BoatState). x .standing .floor) h)))
+  where
+    kept : (s .answered ≡ true → s .standing .floor ≤ heardOf w b) → (s .answered ≡ true) × (leb (s .standing .program) (s .standing .floor) ≡ true) → s .standing .program ≤ heardOf w b
+    kept old p = omega (arith, old (p .0), leb-true (s .standing .program) (s .standing .floor) (p .1))
+
+pub made-promising : (w : World) (b : ℕ) → Ruled w → Made Ruled (spec.promising w b)
+made-promising w b r =
+    made-at Ruled (placeOf w b) (λ i. Ok (noticed (moored w i (vowed (stateAt w i))) (telling b (stateAt w i .standing .program)))) (λ i e. ruled-vowed w b i (stateAt w i) r e (boat-is w b i e))
+
+pub made-ticking : (w : World) (b : ℕ) → Ruled w → Made Ruled (spec.ticking w b)
+made-ticking w b r =
+    made-at Ruled (placeOf w b) (λ i. Ok (cond (spec.tells (stateAt w i)) (noticed w (telling b (stateAt w i .standing .floor))) w)) (λ i e. go i e)
+  where
+    go : (i : ℕ) → placeOf w b ≡ Some i → Ruled (cond (spec.tells (stateAt w i)) (noticed w (telling b (stateAt w i .standing .floor))) w)
+    go i e =
+        cond-both (spec.tells (stateAt w i)) (noticed w (telling b (stateAt w i .standing .floor))) w Ruled
+        (λ _. ruled-noticed w (telling b (stateAt w i .standing .floor)) r (tells (abs (r .crew) w) b (stateAt w i .standing .floor) (omega (arith, ap (λ (x : BoatState). x .standing .floor) (boat-is w b i e)))))
+        (λ _. r)
+
+-- everybody's program and level are at least 1
+pub at-least-1 : (w : World) (r : Ruled w) (b : ℕ) → (1 ≤ boatOf w b .standing .program) × (1 ≤ boatOf w b .standing .level)
+at-least-1 w r b =
+    let p = after-start (r .reach) in
+    let up = promises-of-numbers .grows (fleet.start numbers (p .0)) (abs (r .crew) w) (p .1) in
+    (omega (arith, up .floor b, floor-program w r b), up .level b)
+
+ruled-spoken : (w : World) (x : Word) (r : Ruled w) → (x .form .0 ≤ boatOf w (x .from .0) .standing .level) × (1 ≤ x .form .0) × (x .form .0 ≤ 3) → Ruled (spoken w x)
+ruled-spoken w x r h =
+    record {
+      crew = r .crew;
+      on = r .on;
+      all = r .all;
+      reach = subst (fleet.Reach numbers) (sym (abs-spoken (r .crew) w x)) (fleet.then (r .reach) (talks (abs (r .crew) w) (abstract.wordOf x) (h .0)));
+      answered = r .answered;
+      formed = λ y at. go y (mem-push x y (w .words) at);
+    }
+  where
+    go : (y : Word) → List·Memᴰ y (w .words) ⊎ (y ≡ x) → (1 ≤ y .form .0) × (y .form .0 ≤ 3)
+    go y (inl m) = r .formed y m
+    go y (inr e) = subst (λ (z : Word). (1 ≤ z .form .0) × (z .form .0 ≤ 3)) (sym e) (h .1, h .2)
+
+pub made-talking : (w : World) (a j given : ℕ) → Ruled w → Made Ruled (spec.talking w a j given)
+made-talking w a j given r = made-at Ruled (placeOf w a) (λ p. cond (isSome (placeOf w j) && not (eqb j a)) (cond (reads (stateAt w p .standing .program) given) (Ok (spoken w (spec.wordOf a j (stateAt w p .standing)))) (Err (Number 1))) (Err Bad)) (λ i e. go i e)
+  where
+    go : (p : ℕ) → placeOf w a ≡ Some p → Made Ruled (cond (isSome (placeOf w j) && not (eqb j a)) (cond (reads (stateAt w p .standing .program) given) (Ok (spoken w (spec.wordOf a j (stateAt w p .standing)))) (Err (Number 1))) (Err Bad))
+    go p e =
+        let q : boatOf w a ≡ stateAt w p = boat-is w a p e in
+        let o : (1 ≤ boatOf w a .standing .program) × (1 ≤ boatOf w a .standing .level) = at-least-1 w r a in
+        let pr : boatOf w a .standing .program ≡ stateAt w p .standing .program = ap (λ (x : BoatState). x .standing .program) q in
+        let lv : boatOf w a .standing .level ≡ stateAt w p .standing .level = ap (λ (x : BoatState). x .standing .level) q in
+        cond-both (isSome (placeOf w j) && not (eqb j a)) _ (Err Bad) (Made Ruled)
+        (λ _. made-if Ruled (reads (stateAt w p .standing .program) given) (spoken w (spec.wordOf a j (stateAt w p .standing))) (Number 1) (λ _. ruled-spoken w (spec.wordOf a j (stateAt w p .standing)) r (omega arith, omega arith, omega arith)))
+        (λ _. tt)
+
+-- a word that comes changes nothing
+pub made-hearing-word : (w : World) (x : Word) → Ruled w → Made Ruled (spec.hearingWord w x)
+made-hearing-word w x r = made-at Ruled (placeOf w (x .to .0)) (λ i. cond (reads (stateAt w i .standing .program) (x .form .0)) (Ok w) (Err (Number 1))) (λ i e. made-if Ruled (reads (stateAt w i .standing .program) (x .form .0)) w (Number 1) (λ _. r))
