@@ -29,13 +29,13 @@ floor-heard i b f [] = elim (both (eqb i b)) [ inl t ↦ sym (cond-true _ _ _ t)
 floor-heard i b f (x ∷ es) =
     let ih = floor-heard i b f es in
     elim (both (eqb (x .boat .0) b)) [
-      inl t ↦ elim (both (eqb (x .boat .0) i)) [
-        inl u ↦ (let e : eqb i b ≡ true = grind (arith, tells) in simp (t, u, e))
-      | inr u ↦ (let e : eqb i b ≡ false = grind (arith, tells) in simp (t, u, e))
+      | inl t ↦ elim (both (eqb (x .boat .0) i)) [
+        | inl u ↦ (let e : eqb i b ≡ true = grind (arith, tells) in simp (t, u, e))
+        | inr u ↦ (let e : eqb i b ≡ false = grind (arith, tells) in simp (t, u, e))
       ]
-    | inr t ↦ elim (both (eqb (x .boat .0) i)) [
-        inl u ↦ (let e : eqb i b ≡ false = grind (arith, tells) in simp (t, u, e))
-      | inr u ↦ simp (t, u) ih
+      | inr t ↦ elim (both (eqb (x .boat .0) i)) [
+        | inl u ↦ (let e : eqb i b ≡ false = grind (arith, tells) in simp (t, u, e))
+        | inr u ↦ simp (t, u) ih
       ]
     ]
 
@@ -45,11 +45,11 @@ floor-entered i b [] = refl
 floor-entered i b (x ∷ es) =
     let ih = floor-entered i b es in
     elim (both (ltb (x .boat .0) b)) [
-      inl t ↦ elim (both (eqb (x .boat .0) i)) [
-        inl u ↦ (let e : eqb b i ≡ false = grind (arith, tells) in simp (t, u, e))
-      | inr u ↦ simp (t, u) ih
+      | inl t ↦ elim (both (eqb (x .boat .0) i)) [
+        | inl u ↦ (let e : eqb b i ≡ false = grind (arith, tells) in simp (t, u, e))
+        | inr u ↦ simp (t, u) ih
       ]
-    | inr t ↦ simp t
+      | inr t ↦ simp t
     ]
 
 -- where nobody lacks a level, each on the list has promised it

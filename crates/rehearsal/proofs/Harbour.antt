@@ -93,8 +93,8 @@ module _ (w : World) (b f : ℕ) where
   heard-put g e j =
       let V : Option ℕ → ℕ = λ o. valueOr o 1 in
       ap V (floor-heard j b f (w .harbour .list)) ∙ elim (both (eqb j b)) [
-        inl t ↦ ap V (cond-true _ _ _ t) ∙ ap (λ n. V (raisedBy f (floorOf n (w .harbour .list)))) (eqb-true j b t) ∙ ap (λ o. V (raisedBy f o)) e ∙ higher-max g f ∙ ap (λ o. higher (V o) f) (sym e) ∙ sym (cond-true _ _ _ t)
-      | inr t ↦ ap V (cond-false _ _ _ t) ∙ sym (cond-false _ _ _ t)
+        | inl t ↦ ap V (cond-true _ _ _ t) ∙ ap (λ n. V (raisedBy f (floorOf n (w .harbour .list)))) (eqb-true j b t) ∙ ap (λ o. V (raisedBy f o)) e ∙ higher-max g f ∙ ap (λ o. higher (V o) f) (sym e) ∙ sym (cond-true _ _ _ t)
+        | inr t ↦ ap V (cond-false _ _ _ t) ∙ sym (cond-false _ _ _ t)
       ]
 
   ruled-noted : (g : ℕ) (r : Ruled w) → floorOf b (w .harbour .list) ≡ Some g → f ≤ boatOf w b .standing .floor → Ruled (booked w noted)
@@ -160,8 +160,8 @@ module _ (w : World) (b : ℕ) (none : floorOf b (w .harbour .list) ≡ None) wh
   heard-same j =
       let V : Option ℕ → ℕ = λ o. valueOr o 1 in
       ap V (floor-entered j b (w .harbour .list)) ∙ elim (both (eqb b j)) [
-        inl t ↦ ap V (cond-true _ _ _ t) ∙ sym (ap (λ n. V (floorOf n (w .harbour .list))) (sym (eqb-true b j t)) ∙ ap V none)
-      | inr t ↦ ap V (cond-false _ _ _ t)
+        | inl t ↦ ap V (cond-true _ _ _ t) ∙ sym (ap (λ n. V (floorOf n (w .harbour .list))) (sym (eqb-true b j t)) ∙ ap V none)
+        | inr t ↦ ap V (cond-false _ _ _ t)
       ]
 
   ruled-more : (r : Ruled w) → w .harbour .said ≤ 1 → Ruled (booked w more)
@@ -183,9 +183,9 @@ module _ (w : World) (b : ℕ) (none : floorOf b (w .harbour .list) ≡ None) wh
 
       off : (j : ℕ) {crew : List ℕ} → isSome (cond (eqb b j) (Some 1) (floorOf j (w .harbour .list))) ≡ true → (isSome (floorOf j (w .harbour .list)) ≡ true → List·Memᴰ j crew) → List·Memᴰ j (b ∷ crew)
       off j h f = elim (both (eqb b j)) [
-          inl t ↦ List·Memᴰ·head (sym (eqb-true b j t))
+        | inl t ↦ List·Memᴰ·head (sym (eqb-true b j t))
         | inr t ↦ List·Memᴰ·tail (f (sym (ap isSome (cond-false (eqb b j) (Some 1) (floorOf j (w .harbour .list)) t)) ∙ h))
-        ]
+      ]
 
 pub made-enlisting : (w : World) (b : ℕ) → Ruled w → Made Ruled (spec.enlisting w b)
 made-enlisting w b r = made-at Ruled (placeOf w b) (λ i. spec.enlisted w (listing (w .harbour) b)) (λ i e. go)

@@ -3,7 +3,8 @@
 use Prim.Native.Nat.{ℕ, zero, suc, _≤_, _<_, min}
 use mathlib.Core.Path.{_≡_, refl, sym, ap, subst, _∙_, fun-ext}
 use mathlib.Core.Bool.{Bool, true, false, cond, not, _&&_}
-use mathlib.Core.List.{List, [], _∷_, List·Memᴰ, List·Memᴰ·not-nil}
+use mathlib.Core.List.{List, [], _∷_, _++_, List·Memᴰ, List·Memᴰ·not-nil}
+use mathlib.Core.Logic.{∥∥₁-map}
 use native.Mathlib.Omega.{arith}
 use lib.Dec.{ltb, leb}
 use lib.ListN.{length, getD, replicate}
@@ -13,7 +14,8 @@ use Rattle.std.specs.declared.option.Option.the-variants.{Some, None}
 use Rattle.std.specs.declared.result.Result.{Result}
 use Rattle.std.specs.declared.result.Result.the-variants.{Ok, Err}
 use Rattle.std.proofs.shelf.Tests.{le-leb, lt-ltb, ltb-true, ltb-false, and-from, cond-true, cond-both}
-use Rattle.levels.specs.Verdicts.{Verdict, Number, Bad}
+use Rattle.levels.specs.declared.refusals.Refusal.{Refusal}
+use Rattle.levels.specs.Verdicts.{Verdict, Number, Bad, Tries}
 use Rattle.levels.specs.Rules.{Boat, reads, newest}
 use Rattle.levels.specs.Standings.{first, running, goneBack}
 use Rattle.protocol.specs.Order.{numbers}
@@ -27,7 +29,7 @@ use Rattle.rehearsal.specs.declared.events.Event.{Event}
 use Rattle.rehearsal.specs.declared.events.Event.the-variants.{Enlist, Renew, GoBack, Restart, Promise, Tick, Announce, Say, BringWord, BringNotice}
 use Rattle.rehearsal.specs.Worlds.{World, BoatState, begun, start, placeOf, stateAt, at, tells, opening, opened, play, noWord, noNotice, hearingWord}
 use Rattle.rehearsal.specs.Abstract.{seen, boatOf, heardOf, machineOf, wordOf, noticeOf, abs}
-use Rattle.rehearsal.specs.Promises.{after, plays, run, Listed, Holds, Promises, RunPromises, Reach, begin, then}
+use Rattle.rehearsal.specs.Promises.{after, plays, run, Listed, Holds, Promises, RunPromises, Reached}
 use Rattle.rehearsal.proofs.Sent.{mem-at, mem-back}
 use Rattle.rehearsal.proofs.Ruled.{Ruled, promises-of-numbers, Made, boat-is, made-renewing, made-going-back, made-restarting, made-promising, made-ticking, made-talking, made-hearing-word}
 use Rattle.rehearsal.proofs.Harbour.{backed, made-hearing-notice, made-announcing, made-enlisting}
@@ -78,10 +80,6 @@ made-play w (BringWord n) r =
     cond-both (ltb n (length (w .words))) (hearingWord w (getD (w .words) n noWord)) (Err Bad) (Made Ruled) (λ _. made-hearing-word w (getD (w .words) n noWord) r) (λ _. tt)
 made-play w (BringNotice n) r =
     cond-both (ltb n (length (w .notices))) _ (Err Bad) (Made Ruled) (λ t. made-hearing-notice w (getD (w .notices) n noNotice) r (mem-at (w .notices) n noNotice (ltb-true n (length (w .notices)) t))) (λ _. tt)
-
-pub ruled : {w : World} → Reach w → Ruled w
-ruled (begin n) = ruled-start n
-ruled (then {w = w} r e p) = subst (Made Ruled) p (made-play w e (ruled r))
 
 ruled-after : (w : World) (x : Result World Verdict) → Ruled w → Made Ruled x → Ruled (after w x)
 ruled-after w (Ok v) r m = m
@@ -161,3 +159,18 @@ module _ (w : World) (r : Ruled w) where
 
 pub run-promises : RunPromises
 run-promises n es = promises (run n es) (ruled-plays (start n) es (ruled-start n))
+
+-- a call carries on what events have made
+plays-push : (w : World) (es : List Event) (e : Event) → plays w (es ++ e ∷ []) ≡ after (plays w es) (play (plays w es) e)
+plays-push w [] e = refl
+plays-push w (x ∷ es) e = plays-push (after w (play w x)) es e
+
+pub reached-start : (n : ℕ) (w : World) → w ≡ start n → ∥ Reached w ∥₁
+reached-start n w e = ∣ (n, [], sym e) ∣₁
+
+pub reached-play : (x y : World) (e : Event) (t : Result (Unit {0}) Refusal) → Tries (play x e) t x y → ∥ Reached x ∥₁ → ∥ Reached y ∥₁
+reached-play x y e (Ok u) t h = ∥∥₁-map h (λ q. (q .0, q .1 ++ e ∷ [], plays-push (start (q .0)) (q .1) e ∙ ap (λ w. after w (play w e)) (q .2) ∙ ap (after x) t))
+reached-play x y e (Err n) t h = subst (λ (z : World). ∥ Reached z ∥₁) (sym (t .1)) h
+
+pub promises-reached : (w : World) → ∥ Reached w ∥₁ → ∥ Promises w ∥₁
+promises-reached w h = ∥∥₁-map h (λ q. subst Promises (q .2) (run-promises (q .0) (q .1)))

@@ -66,7 +66,6 @@ pub record Promises (w : World) : Type 0 where
 abbrev pub RunPromises : Type 0
 RunPromises = (n : ℕ) (es : List Event) → Promises (run n es)
 
--- a world that events have made
-pub data Reach : World → Type 0 where
-  begin : (n : ℕ) → Reach (start n)
-  then : {w v : World} → Reach w → (e : Event) → play w e ≡ Ok v → Reach v
+-- a world that events have made from the start
+abbrev pub Reached : World → Type 0
+Reached w = (n : ℕ) × (es : List Event) × (run n es ≡ w)
