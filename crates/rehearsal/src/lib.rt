@@ -3,3 +3,4 @@ pub mod events;
 pub mod fleet;
 pub mod messages;
 pub mod rehearsal;
+pub mod cases;
