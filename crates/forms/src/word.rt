@@ -1,6 +1,6 @@
 // A word about a ship, and the forms in which it is said.
 ghost use mathlib.Core.Path.{_≡_};
-ghost use Rattle.forms.specs.Meaning.{put, get, formOf, Laws};
+ghost use Rattle.forms.specs.Meaning.{put, get, formOf, shipOf, Laws};
 ghost use Rattle.forms.specs.Said.{meaning, said};
 use crate::name::Name;
 use levels::numbers::FormNumber;
@@ -78,6 +78,17 @@ impl Spoken {
             Spoken::First { .. } => FormNumber(1),
             Spoken::Second { .. } => FormNumber(2),
             Spoken::Third { .. } => FormNumber(3),
+        }
+    }
+
+    // The ship that it is about.
+    pub fn ship(self) -> u32
+        ensures { λ r. ⌜ r ≡ shipOf (said self) ⌝ }
+    {
+        match self {
+            Spoken::First { ship, .. } => ship,
+            Spoken::Second { ship, .. } => ship,
+            Spoken::Third { ship, .. } => ship,
         }
     }
 
