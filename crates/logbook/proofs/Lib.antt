@@ -1,0 +1,2 @@
+mod Lasts
+mod Tables
