@@ -1,2 +1,3 @@
 mod Lasts
 mod Tables
+mod Taking

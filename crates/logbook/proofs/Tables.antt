@@ -99,3 +99,8 @@ rising-in (s ∷ ss) zero x l h g a = and-from _ _ (lt-ltb _ _ (g (suc-le-suc ze
 rising-in (s ∷ ss) (suc i) x l h g a =
     let p : (shipAbove (s .ship) ss ≡ true) × (rising ss ≡ true) = and-parts (shipAbove (s .ship) ss) (rising ss) a in
     and-from _ _ (above-in (s .ship) ss i x (h 0 (suc-le-suc zero-le)) (p .0)) (rising-in ss i x (le-of-suc-le-suc l) (λ k q. h (suc k) (suc-le-suc q)) (λ q. g (suc-le-suc q)) (p .1))
+
+-- after a try to put one in, whether there was memory or not
+pub rising-tried : (ss tried : List Slot) (i : ℕ) (x : Slot) (t : Bool) → tried ≡ cond t (inserted ss i x) ss → i ≤ length ss → ((k : ℕ) → k < i → shipAt ss k < x .ship) → (i < length ss → x .ship < shipAt ss i) → rising ss ≡ true → rising tried ≡ true
+rising-tried ss tried i x true e l h g a = ap rising e ∙ rising-in ss i x l h g a
+rising-tried ss tried i x false e l h g a = ap rising e ∙ a

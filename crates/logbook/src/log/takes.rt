@@ -80,4 +80,35 @@ impl Logbook {
         write(&mut self.slots[place], slot);
         Ok(())
     }
+
+    // A ship that has none gets a slot.
+    fn insert(&mut self, place: usize, slot: Slot) -> Result<(), Refusal>
+        requires { ⌜ Placed (vec-items (now self .slots)) (slot .ship) (Err place) ⌝ ∗ ⌜ vec-len (now self .slots) < 4096 ⌝ }
+        ensures { λ r. ⌜ Tries (Ok (spec.entered (log (now (self .entry))) (kept slot))) r (log (now (self .entry))) (log (now (self .exit))) ⌝ }
+    {
+        self.slots.reserve(1)?;
+        self.lasts.insert((slot.from.0, slot.ship), slot.number)?;
+        self.slots.insert(place, slot)?;
+        Ok(())
+    }
+
+    // Takes a word that came, and keeps it in a form of at most `most`. An older number is passed over; there is place for so many ships.
+    pub fn take(&mut self, from: BoatId, number: u32, came: Spoken, most: FormNumber) -> Result<(), Refusal>
+        ensures { λ r. ⌜ Tries (taking (log (now (self .entry))) (from .0) number (said came) (most .0)) r (log (now (self .entry))) (log (now (self .exit))) ⌝ }
+    {
+        let ship = came.ship();
+        if self.is_older(from, ship, number) {
+            return Err(Refusal::OlderNumber);
+        }
+        let slot = Slot::new(from, number, came, most);
+        match self.place(ship) {
+            Ok(place) => self.replace(place, slot),
+            Err(place) => {
+                if self.slots.len() >= MOST {
+                    return Err(Refusal::Full);
+                }
+                self.insert(place, slot)
+            }
+        }
+    }
 }
