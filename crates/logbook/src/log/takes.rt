@@ -44,7 +44,10 @@ impl Logbook {
     pub fn new(heap: Global) -> Logbook
         ensures { λ r. ⌜ log r ≡ empty ⌝ }
     {
-        Logbook { slots: Vec::new(heap), lasts: BTreeMap::new(heap) }
+        Logbook {
+            slots: Vec::new(heap),
+            lasts: BTreeMap::new(heap),
+        }
     }
 
     // The last number that was taken from a boat about a ship.
@@ -93,7 +96,13 @@ impl Logbook {
     }
 
     // Takes a word that came, and keeps it in a form of at most `most`. An older number is passed over; there is place for so many ships.
-    pub fn take(&mut self, from: BoatId, number: u32, came: Spoken, most: FormNumber) -> Result<(), Refusal>
+    pub fn take(
+        &mut self,
+        from: BoatId,
+        number: u32,
+        came: Spoken,
+        most: FormNumber,
+    ) -> Result<(), Refusal>
         ensures { λ r. ⌜ Tries (taking (log (now (self .entry))) (from .0) number (said came) (most .0)) r (log (now (self .entry))) (log (now (self .exit))) ⌝ }
     {
         let ship = came.ship();
@@ -109,6 +118,15 @@ impl Logbook {
                 }
                 self.insert(place, slot)
             }
+        }
+    }
+
+    // The power goes: nothing newer than what is kept is known any more.
+    pub fn fall(&mut self)
+        ensures { λ _. ⌜ log (now (self .exit)) ≡ fallen (log (now (self .entry))) ⌝ }
+    {
+        for slot in self.slots.iter_mut() {
+            slot.newer = None;
         }
     }
 }
