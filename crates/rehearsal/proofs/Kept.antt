@@ -58,6 +58,8 @@ ruled-start n =
       reach = subst (fleet.Reach numbers) (sym (ap F (fun-ext (λ b. ap M (start-boat n b))))) (fleet.begin []);
       answered = λ j a. absurd (never (sym (ap (λ (s : BoatState). s .answered) (start-boat n j)) ∙ a));
       formed = λ x at. absurd (List·Memᴰ·not-nil at);
+      there = λ j h. no h;
+      sorted = refl;
     }
   where
     never : false ≡ true → ⊥
