@@ -87,7 +87,7 @@ ruled-after : (w : World) (x : Result World Verdict) → Ruled w → Made Ruled 
 ruled-after w (Ok v) r m = m
 ruled-after w (Err e) r m = r
 
-ruled-plays : (w : World) (es : List Event) → Ruled w → Ruled (plays w es)
+pub ruled-plays : (w : World) (es : List Event) → Ruled w → Ruled (plays w es)
 ruled-plays w [] r = r
 ruled-plays w (e ∷ es) r = ruled-plays (after w (play w e)) es (ruled-after w (play w e) r (made-play w e r))
 
