@@ -6,7 +6,6 @@ use mathlib.Core.Bool.{Bool, true, false, cond, _&&_, _||_}
 use mathlib.Core.List.{List, [], _∷_, _++_, map}
 use lib.Dec.{eqb, ltb}
 use lib.ListN.{length, take}
-use Rattle.std.specs.Of.Vec.{vec-items}
 use Rattle.std.specs.Results.{isOk}
 use Rattle.std.specs.declared.result.Result.{Result}
 use Rattle.std.specs.declared.result.Result.the-variants.{Ok, Err}
@@ -81,10 +80,20 @@ pub record Risen (k : ℕ) (w v : World) : Type 0 where
 abbrev pub RunRises : Type 0
 RunRises = (n k : ℕ) (es fs : List Event) → rising k (run n es) ≡ Ok fs → (taken (run n es) fs ≡ true) × Risen k (run n es) (run n (es ++ fs))
 
+-- a call that does what is wanted, or finds no memory
+abbrev pub OrMemory : Result (Unit {0}) Refusal → Type 0 → Type 0
+OrMemory (Ok u) P = P
+OrMemory (Err e) P = verdict e ≡ Memory
+
 -- a call that gives the events, or finds no memory
-abbrev pub Planned : ℕ → World → Result (List Event) Refusal → Type 0
-Planned k w (Ok fs) = rising k w ≡ Ok fs
-Planned k w (Err e) = Due (rising k w) (verdict e)
+abbrev pub Listing : {V : Type 0} → (V → List Event) → List Event → Result V Refusal → Type 0
+Listing items fs (Ok v) = items v ≡ fs
+Listing items fs (Err e) = verdict e ≡ Memory
+
+-- a call that gives the events if there are any, or finds no memory
+abbrev pub Planned : {V : Type 0} → (V → List Event) → ℕ → World → Result V Refusal → Type 0
+Planned items k w (Ok v) = rising k w ≡ Ok (items v)
+Planned items k w (Err e) = Due (rising k w) (verdict e)
 
 -- the events that there are
 abbrev pub eventsOf : Result (List Event) Verdict → List Event
@@ -96,6 +105,11 @@ abbrev pub Halted : ℕ → World → World → Verdict → Type 0
 Halted k w v (Number n) = (rising k w ≡ Err (Number n)) × (v ≡ w)
 Halted k w v Bad = (rising k w ≡ Err Bad) × (v ≡ w)
 Halted k w v Memory = (i : ℕ) × (v ≡ plays w (take i (eventsOf (rising k w))))
+
+-- a call that plays events on w, and leaves v: all of them, or some of the first for want of memory
+abbrev pub PlaysAll : List Event → World → World → Result (Unit {0}) Refusal → Type 0
+PlaysAll es w v (Ok u) = v ≡ plays w es
+PlaysAll es w v (Err e) = (verdict e ≡ Memory) × ((i : ℕ) × (v ≡ plays w (take i es)))
 
 -- a call on w that plays the events, and leaves v
 abbrev pub Raised : ℕ → World → World → Result (Unit {0}) Refusal → Type 0
