@@ -163,7 +163,7 @@ pub run-promises : RunPromises
 run-promises n es = promises (run n es) (ruled-plays (start n) es (ruled-start n))
 
 -- a call carries on what events have made
-plays-push : (w : World) (es : List Event) (e : Event) → plays w (es ++ e ∷ []) ≡ after (plays w es) (play (plays w es) e)
+pub plays-push : (w : World) (es : List Event) (e : Event) → plays w (es ++ e ∷ []) ≡ after (plays w es) (play (plays w es) e)
 plays-push w [] e = refl
 plays-push w (x ∷ es) e = plays-push (after w (play w x)) es e
 
