@@ -1,6 +1,13 @@
-use borrow.Author.Needs.{needs}
+use Prim.Native.Nat.{_+_}
+use mathlib.Core.Path.{_∙_, ap}
+use mathlib.Core.List.{List, [], _∷_, _++_}
+use Rattle.std.specs.Of.Vec.{vec-items}
+use Rattle.rehearsal.specs.declared.events.Event.{Event}
+use Rattle.rehearsal.specs.declared.events.Event.the-variants.{BringNotice}
+use Rattle.rehearsal.proofs.Plans.{three}
 use Rattle.rehearsal.proofs.rehearsal.Rehearsal.vouch_one.Needs as need
 
--- src/rehearsal/rising.rt:89:5
 pub returns : need.returns
-returns c = ?
+returns c =
+    let F : Event → List Event = λ e. vec-items (c .args .events .now) ++ e ∷ [] in
+    three (vec-items (c .args .events .now)) (vec-items (c .push .last .self)) (vec-items (c .push-2 .last .self)) (vec-items (c .push-3 .last .self)) _ (BringNotice (c .args .next)) (BringNotice (c .args .next + 1)) (c .in-Continue-push .ensures tt .items ∙ ap F (c .vouch .ensures)) (c .in-Continue-push-2 .ensures tt .items) (c .in-Continue-push-3 .ensures tt .items)
