@@ -24,7 +24,8 @@ use Rattle.rehearsal.specs.declared.fleet.Fleet.{Fleet}
 use Rattle.rehearsal.specs.Worlds.{World, BoatState, world, state, states, begun, play}
 use Rattle.rehearsal.specs.Abstract.{seen, boatOf}
 use Rattle.rehearsal.specs.Promises.{after, plays}
-use Rattle.rehearsal.specs.Rising.{behind, rising, eventsOf, taken, Halted}
+use Rattle.rehearsal.specs.Rising.{behind, canRaise, taken}
+use Rattle.rehearsal.specs.Calls.{eventsOf, Halted}
 use Rattle.rehearsal.proofs.Views.{nowhere, somewhere}
 use Rattle.rehearsal.proofs.Kept.{plays-push}
 
@@ -78,11 +79,11 @@ only-memory (Ok w) rest Memory t d = refl
 only-memory (Err e) rest v t d = let z : _≡_ {A = ℕ} 0 1 = cc in absurd (omega arith)
 
 -- a refusal before anything is played
-pub halted-first : (k : ℕ) (w : World) (v : Verdict) → Due (rising k w) v → Halted k w w v
+pub halted-first : (k : ℕ) (w : World) (v : Verdict) → Due (canRaise k w) v → Halted k w w v
 halted-first k w (Number n) d = (d, refl)
 halted-first k w Bad d = (d, refl)
 halted-first k w Memory d = (0, refl)
 
 -- want of memory on the way
-pub halted-later : (k : ℕ) (w v : World) (e : Verdict) (es : List Event) (i : ℕ) → rising k w ≡ Ok es → e ≡ Memory → v ≡ plays w (take i es) → Halted k w v e
+pub halted-later : (k : ℕ) (w v : World) (e : Verdict) (es : List Event) (i : ℕ) → canRaise k w ≡ Ok es → e ≡ Memory → v ≡ plays w (take i es) → Halted k w v e
 halted-later k w v e es i r m p = subst (Halted k w v) (sym m) (i, p ∙ ap (λ (x : Result (List Event) Verdict). plays w (take i (eventsOf x))) (sym r))

@@ -28,7 +28,7 @@ use Rattle.rehearsal.specs.declared.events.Event.the-variants.{Announce, Bring
 use Rattle.rehearsal.specs.Worlds.{World, BoatState, start, at, placeOf, stateAt, moored, noticed, booked, learned, allowing, toEach, toldEach, announced, play}
 use Rattle.rehearsal.specs.Abstract.{boatOf, heardOf}
 use Rattle.rehearsal.specs.Promises.{after, plays, run, Listed, Reached}
-use Rattle.rehearsal.specs.Rising.{vouch, vouching, behind, bringing, levelsNotice, raising, outdated, rising, taken, Risen, RunRises}
+use Rattle.rehearsal.specs.Rising.{vouch, vouching, behind, bringing, levelsNotice, raising, outdated, canRaise, taken, Risen, RunRises}
 use Rattle.rehearsal.proofs.Books.{both, some-is, Known, known-past, known-all, floor-tail, lacks-none, listed-same}
 use Rattle.rehearsal.proofs.Ruled.{Ruled, boat-is}
 use Rattle.rehearsal.proofs.Kept.{ruled-start, ruled-plays}
@@ -68,28 +68,32 @@ heeded k w v (e ∷ es) n r p new known a l past =
     let asc : (above b es ≡ true) × (ascending es ≡ true) = and-parts (above b es) (ascending es) a in
     elim (both (ltb (e .floor .0) k)) [
       | inl t ↦
-        (let i : (i : ℕ) × (placeOf v b ≡ Some i) = place-on v r b (e .floor .0) (known .0) in
-        let x : (u : World) × Vouched k w v (e .boat) n u = vouches k w v (e .boat) (i .0) (e .floor .0) n r p (i .1) (ltb-false (boatOf w b .standing .program) k (old .0)) (known .0) (ltb-true (e .floor .0) k t) l in
-        let y : (u : World) × Heeded k w (x .0) es (n + 2) u = heeded k w (x .0) es (n + 2) (x .1 .ruled) (x .1 .keeps) (old .1) (known-past b (v .harbour .list) (x .0 .harbour .list) es (asc .0) (asc .1) (x .1 .apart) (known .1)) (asc .1) (x .1 .sent) (past-next w e es (λ j. k ≤ heardOf v j) (λ j. k ≤ heardOf (x .0) j) past (x .1 .here) (λ j d h. subst (λ o. k ≤ valueOr o 1) (sym (x .1 .apart j d)) h)) in
-        let c : behind k (e ∷ es) ≡ 1 + behind k es = cond-true (ltb (e .floor .0) k) (1 + behind k es) (behind k es) t in
-        (y .0, record {
-          did = subst (λ ev. Did v ev (y .0)) (sym (cond-true (ltb (e .floor .0) k) (vouch w k (e .boat) ∷ BringNotice n ∷ BringNotice (n + 1) ∷ vouching w k es (n + 2)) (vouching w k es n) t)) (x .1 .on (vouching w k es (n + 2)) (y .0) (y .1 .did));
-          ruled = y .1 .ruled;
-          keeps = y .1 .keeps;
-          sent = omega (arith, y .1 .sent, c);
-          heard = y .1 .heard;
-        }))
+          (let i : (i : ℕ) × (placeOf v b ≡ Some i) = place-on v r b (e .floor .0) (known .0) in
+          let x : (u : World) × Vouched k w v (e .boat) n u = vouches k w v (e .boat) (i .0) (e .floor .0) n r p (i .1) (ltb-false (boatOf w b .standing .program) k (old .0)) (known .0) (ltb-true (e .floor .0) k t) l in
+          let y : (u : World) × Heeded k w (x .0) es (n + 2) u = heeded k w (x .0) es (n + 2) (x .1 .ruled) (x .1 .keeps) (old .1) (known-past b (v .harbour .list) (x .0 .harbour .list) es (asc .0) (asc .1) (x .1 .apart) (known .1)) (asc .1) (x .1 .sent) (past-next w e es (λ j. k ≤ heardOf v j) (λ j. k ≤ heardOf (x .0) j) past (x .1 .here) (λ j d h. subst (λ o. k ≤ valueOr o 1) (sym (x .1 .apart j d)) h)) in
+          let c : behind k (e ∷ es) ≡ 1 + behind k es = cond-true (ltb (e .floor .0) k) (1 + behind k es) (behind k es) t in (
+            y .0,
+            record {
+              did = subst (λ ev. Did v ev (y .0)) (sym (cond-true (ltb (e .floor .0) k) (vouch w k (e .boat) ∷ BringNotice n ∷ BringNotice (n + 1) ∷ vouching w k es (n + 2)) (vouching w k es n) t)) (x .1 .on (vouching w k es (n + 2)) (y .0) (y .1 .did));
+              ruled = y .1 .ruled;
+              keeps = y .1 .keeps;
+              sent = omega (arith, y .1 .sent, c);
+              heard = y .1 .heard;
+            },
+          ))
       | inr t ↦
-        (let h : heardOf v b ≡ e .floor .0 = ap (λ o. valueOr o 1) (known .0) in
-        let y : (u : World) × Heeded k w v es n u = heeded k w v es n r p (old .1) (known .1) (asc .1) l (past-next w e es (λ j. k ≤ heardOf v j) (λ j. k ≤ heardOf v j) past (omega (arith, h, ltb-false (e .floor .0) k t)) (λ j d q. q)) in
-        let c : behind k (e ∷ es) ≡ behind k es = cond-false (ltb (e .floor .0) k) (1 + behind k es) (behind k es) t in
-        (y .0, record {
-          did = subst (λ ev. Did v ev (y .0)) (sym (cond-false (ltb (e .floor .0) k) (vouch w k (e .boat) ∷ BringNotice n ∷ BringNotice (n + 1) ∷ vouching w k es (n + 2)) (vouching w k es n) t)) (y .1 .did);
-          ruled = y .1 .ruled;
-          keeps = y .1 .keeps;
-          sent = omega (arith, y .1 .sent, c);
-          heard = y .1 .heard;
-        }))
+          (let h : heardOf v b ≡ e .floor .0 = ap (λ o. valueOr o 1) (known .0) in
+          let y : (u : World) × Heeded k w v es n u = heeded k w v es n r p (old .1) (known .1) (asc .1) l (past-next w e es (λ j. k ≤ heardOf v j) (λ j. k ≤ heardOf v j) past (omega (arith, h, ltb-false (e .floor .0) k t)) (λ j d q. q)) in
+          let c : behind k (e ∷ es) ≡ behind k es = cond-false (ltb (e .floor .0) k) (1 + behind k es) (behind k es) t in (
+            y .0,
+            record {
+              did = subst (λ ev. Did v ev (y .0)) (sym (cond-false (ltb (e .floor .0) k) (vouch w k (e .boat) ∷ BringNotice n ∷ BringNotice (n + 1) ∷ vouching w k es (n + 2)) (vouching w k es n) t)) (y .1 .did);
+              ruled = y .1 .ruled;
+              keeps = y .1 .keeps;
+              sent = omega (arith, y .1 .sent, c);
+              heard = y .1 .heard;
+            },
+          ))
     ]
 
 -- the harbour says what all of the list have promised
@@ -145,7 +149,7 @@ rises k w r some many new =
     (y .0, did-then w v (y .0) (vouching w k list (length (w .notices))) (Announce (record { 0 = k }) ∷ bringing list (levelsNotice k w)) (x .1 .did) (did-next v (proclaimed v k) (y .0) (Announce (record { 0 = k })) (bringing list (levelsNotice k w)) said told), record { levels = y .1 .levels; programs = λ b. y .1 .keeps .boats b .0; listed = y .1 .keeps .listed; floors = λ b. y .1 .keeps .boats b .1 })
 
 -- where there are events, all that is asked for is there
-pub rising-ok : (k : ℕ) (w : World) (fs : List Event) → rising k w ≡ Ok fs → (raising k w ≡ fs) × (eqb k 0 ≡ false) × (ltb 1 k && eqb (length (w .harbour .list)) 0 ≡ false) × (outdated w k (w .harbour .list) ≡ false)
+pub rising-ok : (k : ℕ) (w : World) (fs : List Event) → canRaise k w ≡ Ok fs → (raising k w ≡ fs) × (eqb k 0 ≡ false) × (ltb 1 k && eqb (length (w .harbour .list)) 0 ≡ false) × (outdated w k (w .harbour .list) ≡ false)
 rising-ok k w fs = go (eqb k 0) (ltb 1 k && eqb (length (w .harbour .list)) 0) (outdated w k (w .harbour .list))
   where
     go : (a b c : Bool) → cond a (Err Bad) (cond (b || c) (Err (Number 4)) (Ok (raising k w))) ≡ Ok fs → (raising k w ≡ fs) × (a ≡ false) × (b ≡ false) × (c ≡ false)
@@ -154,7 +158,7 @@ rising-ok k w fs = go (eqb k 0) (ltb 1 k && eqb (length (w .harbour .list)) 0) (
     go false false true e = let z : _≡_ {A = ℕ} 0 1 = cc in absurd (omega arith)
     go false false false e = (cc, refl, refl, refl)
 
-ruled-rises : (k : ℕ) (w : World) (fs : List Event) → Ruled w → rising k w ≡ Ok fs → (taken w fs ≡ true) × Risen k w (plays w fs)
+ruled-rises : (k : ℕ) (w : World) (fs : List Event) → Ruled w → canRaise k w ≡ Ok fs → (taken w fs ≡ true) × Risen k w (plays w fs)
 ruled-rises k w fs r e =
     let o : (raising k w ≡ fs) × (eqb k 0 ≡ false) × (ltb 1 k && eqb (length (w .harbour .list)) 0 ≡ false) × (outdated w k (w .harbour .list) ≡ false) = rising-ok k w fs e in
     let x : (u : World) × Did w (raising k w) u × Risen k w u = rises k w r (o .1) (o .2) (o .3) in
@@ -170,9 +174,9 @@ run-rises n k es fs e =
     (x .0, subst (Risen k (run n es)) (sym (plays-append (start n) es fs)) (x .1))
 
 -- the same of any world that events have made
-module _ (k : ℕ) (w : World) (fs : List Event) (h : ∥ Reached w ∥₁) (e : rising k w ≡ Ok fs) where
+module _ (k : ℕ) (w : World) (fs : List Event) (h : ∥ Reached w ∥₁) (e : canRaise k w ≡ Ok fs) where
   from : Reached w → (taken w fs ≡ true) × Risen k w (plays w fs)
-  from q = subst (λ (x : World). rising k x ≡ Ok fs → (taken x fs ≡ true) × Risen k x (plays x fs)) (q .2) (ruled-rises k (run (q .0) (q .1)) fs (ruled-plays (start (q .0)) (q .1) (ruled-start (q .0)))) e
+  from q = subst (λ (x : World). canRaise k x ≡ Ok fs → (taken x fs ≡ true) × Risen k x (plays x fs)) (q .2) (ruled-rises k (run (q .0) (q .1)) fs (ruled-plays (start (q .0)) (q .1) (ruled-start (q .0)))) e
 
   pub reached-taken : taken w fs ≡ true
   reached-taken = ∥∥₁-elim h (Bool-set _ _) (λ q. from q .0)

@@ -3,3 +3,4 @@ pub mod Rehearsals
 pub mod Abstract
 pub mod Promises
 pub mod Rising
+pub mod Calls

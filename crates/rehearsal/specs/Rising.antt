@@ -5,19 +5,18 @@ use mathlib.Core.Path.{_≡_}
 use mathlib.Core.Bool.{Bool, true, false, cond, _&&_, _||_}
 use mathlib.Core.List.{List, [], _∷_, _++_, map}
 use lib.Dec.{eqb, ltb}
-use lib.ListN.{length, take}
+use lib.ListN.{length}
 use Rattle.std.specs.Results.{isOk}
 use Rattle.std.specs.declared.result.Result.{Result}
 use Rattle.std.specs.declared.result.Result.the-variants.{Ok, Err}
 use Rattle.levels.specs.declared.numbers.BoatId.{BoatId}
 use Rattle.levels.specs.declared.ledger.Entry.{Entry}
-use Rattle.levels.specs.declared.refusals.Refusal.{Refusal}
-use Rattle.levels.specs.Verdicts.{Verdict, Number, Bad, Memory, verdict, Due}
+use Rattle.levels.specs.Verdicts.{Verdict, Number, Bad}
 use Rattle.rehearsal.specs.declared.events.Event.{Event}
 use Rattle.rehearsal.specs.declared.events.Event.the-variants.{Promise, Tick, Announce, BringNotice}
 use Rattle.rehearsal.specs.Worlds.{World, play}
 use Rattle.rehearsal.specs.Abstract.{boatOf}
-use Rattle.rehearsal.specs.Promises.{after, plays, run, Listed}
+use Rattle.rehearsal.specs.Promises.{after, run, Listed}
 
 -- a boat promises if its floor is below k; else it tells again what it has promised
 abbrev pub vouch : World → ℕ → BoatId → Event
@@ -54,8 +53,8 @@ outdated w k [] = false
 outdated w k (e ∷ es) = ltb (boatOf w (e .boat .0) .standing .program) k || outdated w k es
 
 -- the events, or why there are none: there is no level 0, and it is 4 where nobody is on the list, or somebody's program is too old
-abbrev pub rising : ℕ → World → Result (List Event) Verdict
-rising k w =
+abbrev pub canRaise : ℕ → World → Result (List Event) Verdict
+canRaise k w =
     cond (eqb k 0) (Err Bad) (cond ((ltb 1 k && eqb (length (w .harbour .list)) 0) || outdated w k (w .harbour .list)) (Err (Number 4)) (Ok (raising k w)))
 
 -- no event of a list is refused
@@ -78,40 +77,4 @@ pub record Risen (k : ℕ) (w v : World) : Type 0 where
 
 -- the one theorem: after any events, where there are events for a level, none of them is refused, and they raise it
 abbrev pub RunRises : Type 0
-RunRises = (n k : ℕ) (es fs : List Event) → rising k (run n es) ≡ Ok fs → (taken (run n es) fs ≡ true) × Risen k (run n es) (run n (es ++ fs))
-
--- a call that does what is wanted, or finds no memory
-abbrev pub OrMemory : Result (Unit {0}) Refusal → Type 0 → Type 0
-OrMemory (Ok u) P = P
-OrMemory (Err e) P = verdict e ≡ Memory
-
--- a call that gives the events, or finds no memory
-abbrev pub Listing : {V : Type 0} → (V → List Event) → List Event → Result V Refusal → Type 0
-Listing items fs (Ok v) = items v ≡ fs
-Listing items fs (Err e) = verdict e ≡ Memory
-
--- a call that gives the events if there are any, or finds no memory
-abbrev pub Planned : {V : Type 0} → (V → List Event) → ℕ → World → Result V Refusal → Type 0
-Planned items k w (Ok v) = rising k w ≡ Ok (items v)
-Planned items k w (Err e) = Due (rising k w) (verdict e)
-
--- the events that there are
-abbrev pub eventsOf : Result (List Event) Verdict → List Event
-eventsOf (Ok fs) = fs
-eventsOf (Err v) = []
-
--- a refusal changes nothing; want of memory leaves what some of the first events have made
-abbrev pub Halted : ℕ → World → World → Verdict → Type 0
-Halted k w v (Number n) = (rising k w ≡ Err (Number n)) × (v ≡ w)
-Halted k w v Bad = (rising k w ≡ Err Bad) × (v ≡ w)
-Halted k w v Memory = (i : ℕ) × (v ≡ plays w (take i (eventsOf (rising k w))))
-
--- a call that plays events on w, and leaves v: all of them, or some of the first for want of memory
-abbrev pub PlaysAll : List Event → World → World → Result (Unit {0}) Refusal → Type 0
-PlaysAll es w v (Ok u) = v ≡ plays w es
-PlaysAll es w v (Err e) = (verdict e ≡ Memory) × ((i : ℕ) × (v ≡ plays w (take i es)))
-
--- a call on w that plays the events, and leaves v
-abbrev pub Raised : ℕ → World → World → Result (Unit {0}) Refusal → Type 0
-Raised k w v (Ok u) = (rising k w ≡ Ok (raising k w)) × (v ≡ plays w (raising k w)) × Risen k w v
-Raised k w v (Err e) = Halted k w v (verdict e)
+RunRises = (n k : ℕ) (es fs : List Event) → canRaise k (run n es) ≡ Ok fs → (taken (run n es) fs ≡ true) × Risen k (run n es) (run n (es ++ fs))

@@ -10,7 +10,8 @@ ghost use Rattle.rehearsal.specs.declared.events.Event.the-variants.{BringNoti
 ghost use Rattle.rehearsal.specs.Worlds.{world};
 ghost use Rattle.rehearsal.specs.Abstract.{boatOf};
 ghost use Rattle.rehearsal.specs.Promises.{Promises};
-ghost use Rattle.rehearsal.specs.Rising.{taken, OrMemory, Listing, Planned, PlaysAll, Raised, RunRises};
+ghost use Rattle.rehearsal.specs.Rising.{taken};
+ghost use Rattle.rehearsal.specs.Calls.{OrMemory, Gives, Planned, PlaysAll, Raised};
 ghost use Rattle.rehearsal.specs.Rising as spec;
 use super::Rehearsal;
 use crate::events::Event;
@@ -86,7 +87,13 @@ impl Rehearsal {
     }
 
     // A boat vouches, the harbour hears it, and the boat its answer.
-    fn vouch_one(&self, events: &mut Vec<Event>, boat: BoatId, level: Level, next: usize) -> Result<(), Refusal>
+    fn vouch_one(
+        &self,
+        events: &mut Vec<Event>,
+        boat: BoatId,
+        level: Level,
+        next: usize,
+    ) -> Result<(), Refusal>
         requires { ⌜ next + 2 < 2 ^ 64 ⌝ }
         ensures { λ r. ⌜ OrMemory r (vec-items (now (events .exit)) ≡ vec-items (now (events .entry)) ++ spec.vouch (world (now (self .entry) .fleet)) (level .0) boat ∷ BringNotice next ∷ BringNotice (next + 1) ∷ []) ⌝ }
     {
@@ -113,7 +120,7 @@ impl Rehearsal {
 
     // The events for a level that can rise.
     fn plan(&self, heap: Global, level: Level) -> Result<Vec<Event>, Refusal>
-        ensures { λ r. ⌜ Listing vec-items (spec.raising (level .0) (world (now (self .entry) .fleet))) r ⌝ }
+        ensures { λ r. ⌜ Gives vec-items (spec.raising (level .0) (world (now (self .entry) .fleet))) r ⌝ }
     {
         let boats = self.fleet.harbour().boats();
         let first = self.fleet.notices().len() + 2 * behind(boats, level);
@@ -160,11 +167,4 @@ impl Rehearsal {
         self.play_all(events.as_slice())?;
         Ok(())
     }
-}
-
-// After every list of events from the start, a level that the programs of the list allow can rise.
-pub fn rising_stands() -> u8
-    ensures { λ _. ⌜ RunRises ⌝ }
-{
-    0
 }

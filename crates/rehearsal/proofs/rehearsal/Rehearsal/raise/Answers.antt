@@ -8,7 +8,7 @@ use Rattle.std.proofs.shelf.Results.{err-from-errBy}
 use Rattle.rehearsal.specs.declared.events.Event.{Event}
 use Rattle.rehearsal.specs.Worlds.{World, world}
 use Rattle.rehearsal.specs.Promises.{plays}
-use Rattle.rehearsal.specs.Rising.{raising, rising, taken, Risen}
+use Rattle.rehearsal.specs.Rising.{raising, canRaise, taken, Risen}
 use Rattle.rehearsal.proofs.Kept.{promises-reached}
 use Rattle.rehearsal.proofs.Rises.{rising-ok, reached-taken, reached-risen}
 use Rattle.rehearsal.proofs.Plans.{halted-first, halted-later}
@@ -45,7 +45,7 @@ returns c =
     let w : World = world (c .args .self .now .fleet) in
     let v : World = world (c .play-all .last .self .fleet) in
     let fs : List Event = vec-items (c .in-Continue-events .events) in
-    let ok : rising k w ≡ Ok fs = c .in-Continue-events .ensures tt in
+    let ok : canRaise k w ≡ Ok fs = c .in-Continue-events .ensures tt in
     let same : raising k w ≡ fs = rising-ok k w fs ok .0 in
     let went : v ≡ plays w fs = c .in-Continue-play-all .ensures tt ∙ ap (plays w) (c .as-slice .ensures .value) in
     record {
