@@ -1,6 +1,6 @@
 -- What the loops make, step by step, that list the events for a level and play them.
 -- Assumes nothing.
-use Prim.Native.Nat.{ℕ, zero, suc, _+_, _-_, _≤_, _<_}
+use Prim.Native.Nat.{ℕ, zero, suc, _+_, _-_, _*_, _≤_, _<_}
 use mathlib.Core.Path.{_≡_, refl, sym, ap, subst, _∙_}
 use mathlib.Core.Bool.{Bool, true, false, cond, _&&_}
 use mathlib.Core.List.{List, [], _∷_, _++_, append-assoc, append-nil, map}
@@ -19,12 +19,14 @@ use Rattle.levels.specs.declared.refusals.Refusal.{Refusal}
 use Rattle.levels.specs.Verdicts.{Verdict, Number, Bad, Memory, verdict, Due, Tries}
 use Rattle.levels.specs.Standings.{first}
 use Rattle.rehearsal.specs.declared.events.Event.{Event}
+use Rattle.rehearsal.specs.declared.events.Event.the-variants.{Announce}
+use Rattle.rehearsal.specs.declared.messages.Notice.{Notice}
 use Rattle.rehearsal.specs.declared.fleet.Vessel.{Vessel}
 use Rattle.rehearsal.specs.declared.fleet.Fleet.{Fleet}
 use Rattle.rehearsal.specs.Worlds.{World, BoatState, world, state, states, begun, play}
 use Rattle.rehearsal.specs.Abstract.{seen, boatOf}
 use Rattle.rehearsal.specs.Promises.{after, plays}
-use Rattle.rehearsal.specs.Rising.{behind, canRaise, taken}
+use Rattle.rehearsal.specs.Rising.{vouching, behind, bringing, levelsNotice, raising, canRaise, taken}
 use Rattle.rehearsal.specs.Calls.{eventsOf, Halted}
 use Rattle.rehearsal.proofs.Views.{nowhere, somewhere}
 use Rattle.rehearsal.proofs.Kept.{plays-push}
@@ -41,9 +43,18 @@ pushed was now new rest left all p q r = ap (λ es. es ++ rest) p ∙ append-ass
 pub finished : (now left all : List Event) → left ≡ [] → now ++ left ≡ all → now ≡ all
 finished now left all q r = sym (append-nil now) ∙ sym (ap (λ es. now ++ es) q) ∙ r
 
-pub three : (a b c d : List Event) (x y z : Event) → b ≡ a ++ x ∷ [] → c ≡ b ++ y ∷ [] → d ≡ c ++ z ∷ [] → d ≡ a ++ x ∷ y ∷ z ∷ []
-three a b c d x y z p q r =
-    r ∙ ap (λ es. es ++ z ∷ []) (q ∙ ap (λ es. es ++ y ∷ []) p ∙ append-assoc a (x ∷ []) (y ∷ [])) ∙ append-assoc a (x ∷ y ∷ []) (z ∷ [])
+pub three : (a b c d : List Event) (v x y z : Event) → b ≡ a ++ v ∷ [] → v ≡ x → c ≡ b ++ y ∷ [] → d ≡ c ++ z ∷ [] → d ≡ a ++ x ∷ y ∷ z ∷ []
+three a b c d v x y z p e q r =
+    r ∙ ap (λ es. es ++ z ∷ []) (q ∙ ap (λ es. es ++ y ∷ []) (p ∙ ap (λ t. a ++ t ∷ []) e) ∙ append-assoc a (x ∷ []) (y ∷ [])) ∙ append-assoc a (x ∷ y ∷ []) (z ∷ [])
+
+-- the parts of the list, one after the other
+pub whole : (k : ℕ) (w : World) (list : List Entry) (ns : List Notice) (m : ℕ) (a b c d : List Event) → list ≡ w .harbour .list → ns ≡ w .notices → m ≡ behind k list → a ≡ [] → b ≡ a ++ vouching w k (w .harbour .list) (length (w .notices)) → c ≡ b ++ Announce (record { 0 = k }) ∷ [] → d ≡ c ++ bringing list (length ns + 2 * m) → d ≡ raising k w
+whole k w list ns m a b c d same sent count p q r t =
+    let vs : List Event = vouching w k (w .harbour .list) (length (w .notices)) in
+    let C : List Entry → List Event = λ es. vs ++ Announce (record { 0 = k }) ∷ bringing es (length ns + 2 * m) in
+    let D : ℕ → List Event = λ n. vs ++ Announce (record { 0 = k }) ∷ bringing (w .harbour .list) n in
+    let n : length ns + 2 * m ≡ levelsNotice k w = ap (λ x. length x + 2 * m) sent ∙ ap (λ x. length (w .notices) + 2 * x) (count ∙ ap (behind k) same) in
+    t ∙ ap (λ es. es ++ bringing list (length ns + 2 * m)) (r ∙ ap (λ es. es ++ Announce (record { 0 = k }) ∷ []) (q ∙ ap (λ es. es ++ vs) p)) ∙ append-assoc vs (Announce (record { 0 = k }) ∷ []) (bringing list (length ns + 2 * m)) ∙ ap C same ∙ ap D n
 
 -- a boat by its number, in what the code reads
 module _ (f : Fleet) (xs : List Vessel) (same : states xs ≡ world f .boats) where
