@@ -1,13 +1,11 @@
 -- The events for a level, computed: two boats on the list, of which one has promised and is not answered.
 -- Assumes nothing.
-use Prim.Native.Nat.{ℕ}
 use mathlib.Core.Path.{_≡_, refl}
 use mathlib.Core.List.{List, [], _∷_, _++_}
 use Rattle.std.specs.declared.result.Result.the-variants.{Ok, Err}
-use Rattle.levels.specs.Verdicts.{Verdict, Number, Bad}
+use Rattle.levels.specs.Verdicts.{Number}
 use Rattle.rehearsal.specs.declared.events.Event.{Event}
 use Rattle.rehearsal.specs.declared.events.Event.the-variants.{Enlist, Renew, Promise, Tick, Announce, BringNotice}
-use Rattle.rehearsal.specs.Worlds.{World}
 use Rattle.rehearsal.specs.Abstract.{boatOf}
 use Rattle.rehearsal.specs.Promises.{run}
 use Rattle.rehearsal.specs.Rising.{canRaise, raising}

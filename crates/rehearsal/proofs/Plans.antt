@@ -1,9 +1,9 @@
 -- What the loops make, step by step, that list the events for a level and play them.
 -- Assumes nothing.
-use Prim.Native.Nat.{ℕ, zero, suc, _+_, _-_, _*_, _≤_, _<_}
+use Prim.Native.Nat.{ℕ, _+_, _-_, _*_, _≤_, _<_}
 use mathlib.Core.Path.{_≡_, refl, sym, ap, subst, _∙_}
-use mathlib.Core.Bool.{Bool, true, false, cond, _&&_}
-use mathlib.Core.List.{List, [], _∷_, _++_, append-assoc, append-nil, map}
+use mathlib.Core.Bool.{Bool, true, _&&_}
+use mathlib.Core.List.{List, [], _∷_, _++_, append-assoc, append-nil}
 use mathlib.Core.Logic.{_⊎_, inl, inr}
 use native.Mathlib.Omega.{arith}
 use lib.Dec.{ltb}
@@ -12,18 +12,17 @@ use Rattle.std.specs.Of.Vec.{vec-items}
 use Rattle.std.specs.Results.{isOk}
 use Rattle.std.specs.declared.result.Result.{Result}
 use Rattle.std.specs.declared.result.Result.the-variants.{Ok, Err}
-use Rattle.std.proofs.shelf.Lists.{length-map, getD-map, take-more, take-all, at-drop-more}
+use Rattle.std.proofs.shelf.Lists.{length-map, getD-map, take-more, at-drop-more}
 use Rattle.std.proofs.shelf.Tests.{cond-both}
 use Rattle.levels.specs.declared.ledger.Entry.{Entry}
-use Rattle.levels.specs.declared.refusals.Refusal.{Refusal}
-use Rattle.levels.specs.Verdicts.{Verdict, Number, Bad, Memory, verdict, Due, Tries}
+use Rattle.levels.specs.Verdicts.{Verdict, Number, Bad, Memory, Due}
 use Rattle.levels.specs.Standings.{first}
 use Rattle.rehearsal.specs.declared.events.Event.{Event}
 use Rattle.rehearsal.specs.declared.events.Event.the-variants.{Announce}
 use Rattle.rehearsal.specs.declared.messages.Notice.{Notice}
 use Rattle.rehearsal.specs.declared.fleet.Vessel.{Vessel}
 use Rattle.rehearsal.specs.declared.fleet.Fleet.{Fleet}
-use Rattle.rehearsal.specs.Worlds.{World, BoatState, world, state, states, begun, play}
+use Rattle.rehearsal.specs.Worlds.{World, world, state, states, begun, play}
 use Rattle.rehearsal.specs.Abstract.{seen, boatOf}
 use Rattle.rehearsal.specs.Promises.{after, plays}
 use Rattle.rehearsal.specs.Rising.{vouching, behind, bringing, levelsNotice, raising, canRaise, taken}
@@ -96,5 +95,5 @@ halted-first k w Bad d = (d, refl)
 halted-first k w Memory d = (0, refl)
 
 -- want of memory on the way
-pub halted-later : (k : ℕ) (w v : World) (e : Verdict) (es : List Event) (i : ℕ) → canRaise k w ≡ Ok es → e ≡ Memory → v ≡ plays w (take i es) → Halted k w v e
-halted-later k w v e es i r m p = subst (Halted k w v) (sym m) (i, p ∙ ap (λ (x : Result (List Event) Verdict). plays w (take i (eventsOf x))) (sym r))
+pub halted-later : (k : ℕ) (w v : World) (e : Verdict) (es fs : List Event) (i : ℕ) → canRaise k w ≡ Ok fs → es ≡ fs → e ≡ Memory → v ≡ plays w (take i es) → Halted k w v e
+halted-later k w v e es fs i r s m p = subst (Halted k w v) (sym m) (i, p ∙ ap (λ (x : List Event). plays w (take i x)) s ∙ ap (λ (x : Result (List Event) Verdict). plays w (take i (eventsOf x))) (sym r))

@@ -1,38 +1,37 @@
 -- The events that raise a level are all taken, and raise it.
 -- Assumes nothing.
-use Prim.Native.Nat.{ℕ, _+_, _*_, _≤_, _<_, max}
+use Prim.Native.Nat.{ℕ, _+_, _*_, _≤_, max}
 use mathlib.Core.Path.{_≡_, refl, sym, ap, subst, _∙_}
 use mathlib.Core.Bool.{Bool, true, false, cond, _&&_, _||_, Bool-set}
 use mathlib.Core.List.{List, [], _∷_, _++_, append-assoc, append-nil, List·isSet}
-use mathlib.Core.Logic.{_⊎_, inl, inr, ∥∥₁-elim}
+use mathlib.Core.Logic.{inl, inr, ∥∥₁-elim}
 use native.Mathlib.Omega.{arith}
 use native.Mathlib.Nat.{ℕ-set}
 use lib.Dec.{eqb, ltb}
 use lib.ListN.{length, length-append}
 use Rattle.std.specs.Options.{isSome, valueOr}
-use Rattle.std.specs.declared.option.Option.{Option}
 use Rattle.std.specs.declared.option.Option.the-variants.{Some, None}
-use Rattle.std.specs.declared.result.Result.{Result}
 use Rattle.std.specs.declared.result.Result.the-variants.{Ok, Err}
 use Rattle.std.proofs.shelf.Lists.{length-map}
 use Rattle.std.proofs.shelf.Tests.{ltb-true, ltb-false, leb-true, le-leb, or-parts, or-from, and-parts, cond-true, cond-false, cases-eq}
 use Rattle.levels.specs.declared.ledger.Entry.{Entry}
-use Rattle.levels.specs.Verdicts.{Verdict, Number, Bad}
+use Rattle.levels.specs.Verdicts.{Number, Bad}
 use Rattle.levels.specs.Standings.{raised}
 use Rattle.levels.specs.Entries.{floorOf, lacking, above, ascending}
-use Rattle.levels.specs.Ledgers.{Book, unpromised}
+use Rattle.levels.specs.Ledgers.{unpromised}
 use Rattle.rehearsal.specs.declared.messages.Notice.{Notice}
 use Rattle.rehearsal.specs.declared.messages.Notice.the-variants.{Taken}
 use Rattle.rehearsal.specs.declared.events.Event.{Event}
 use Rattle.rehearsal.specs.declared.events.Event.the-variants.{Announce, BringNotice}
-use Rattle.rehearsal.specs.Worlds.{World, BoatState, start, at, placeOf, stateAt, moored, noticed, booked, learned, allowing, toEach, toldEach, announced, play}
+use Rattle.rehearsal.specs.Worlds.{World, BoatState, start, at, placeOf, stateAt, moored, booked, learned, allowing, toEach, toldEach, announced, play}
 use Rattle.rehearsal.specs.Abstract.{boatOf, heardOf}
 use Rattle.rehearsal.specs.Promises.{after, plays, run, Listed, Reached}
 use Rattle.rehearsal.specs.Rising.{vouch, vouching, behind, bringing, levelsNotice, raising, outdated, canRaise, taken, Risen, RunRises}
+use Rattle.rehearsal.specs.Calls.{Raised}
 use Rattle.rehearsal.proofs.Books.{both, some-is, Known, known-past, known-all, floor-tail, lacks-none, listed-same}
-use Rattle.rehearsal.proofs.Ruled.{Ruled, boat-is}
+use Rattle.rehearsal.proofs.Ruled.{Ruled}
 use Rattle.rehearsal.proofs.Kept.{ruled-start, ruled-plays}
-use Rattle.rehearsal.proofs.Vouches.{Did, did-none, did-next, did-then, ruled-ok, Like, Keeps, keeps-same, keeps-moored, like-at, boat-here, boat-apart, brings, Vouched, vouches}
+use Rattle.rehearsal.proofs.Vouches.{Did, did-none, did-next, did-then, ruled-ok, Keeps, keeps-same, keeps-moored, like-at, boat-here, boat-apart, brings, Vouched, vouches}
 
 -- P holds of each boat of the list but those that are still to come
 abbrev Past : World → List Entry → (ℕ → Type 0) → Type 0
@@ -181,7 +180,7 @@ module _ (k : ℕ) (w : World) (fs : List Event) (h : ∥ Reached w ∥₁) (e :
   pub reached-taken : taken w fs ≡ true
   reached-taken = ∥∥₁-elim h (Bool-set _ _) (λ q. from q .0)
 
-  pub reached-risen : Risen k w (plays w fs)
+  reached-risen : Risen k w (plays w fs)
   reached-risen =
       record {
         levels = λ b on. leb-true k (boatOf (plays w fs) b .standing .level) (∥∥₁-elim h (Bool-set _ _) (λ q. le-leb k (boatOf (plays w fs) b .standing .level) (from q .1 .levels b on)));
@@ -189,3 +188,9 @@ module _ (k : ℕ) (w : World) (fs : List Event) (h : ∥ Reached w ∥₁) (e :
         listed = ∥∥₁-elim h (List·isSet ℕ-set _ _) (λ q. from q .1 .listed);
         floors = λ b l. ∥∥₁-elim h (ℕ-set _ _) (λ q. from q .1 .floors b l);
       }
+
+  pub reached-raised : (v : World) (es : List Event) → es ≡ fs → v ≡ plays w es → Raised k w v (Ok tt)
+  reached-raised v es same went =
+      let all : raising k w ≡ fs = rising-ok k w fs e .0 in
+      let here : v ≡ plays w fs = went ∙ ap (plays w) same in
+      (e ∙ ap Ok (sym all), here ∙ ap (plays w) (sym all), subst (Risen k w) (sym here) reached-risen)

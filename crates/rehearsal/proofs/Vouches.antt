@@ -1,31 +1,28 @@
 -- A boat vouches for a level: what it says comes to the harbour, and the answer to it.
 -- Assumes nothing.
-use Prim.Native.Nat.{ℕ, zero, suc, _+_, _*_, _≤_, _<_, max}
+use Prim.Native.Nat.{ℕ, _+_, _≤_, _<_, max}
 use mathlib.Core.Path.{_≡_, refl, sym, ap, subst, _∙_}
-use mathlib.Core.Bool.{Bool, true, false, cond, _&&_}
+use mathlib.Core.Bool.{true, false, cond, _&&_}
 use mathlib.Core.List.{List, [], _∷_, _++_}
 use mathlib.Core.Logic.{_⊎_, inl, inr}
 use native.Mathlib.Omega.{arith}
 use lib.Dec.{eqb, ltb}
 use lib.ListN.{length, getD, length-append}
-use Rattle.std.specs.Options.{isSome, valueOr}
+use Rattle.std.specs.Options.{valueOr}
 use Rattle.std.specs.Results.{isOk}
-use Rattle.std.specs.declared.option.Option.{Option}
-use Rattle.std.specs.declared.option.Option.the-variants.{Some, None}
+use Rattle.std.specs.declared.option.Option.the-variants.{Some}
 use Rattle.std.specs.declared.result.Result.{Result}
 use Rattle.std.specs.declared.result.Result.the-variants.{Ok, Err}
 use Rattle.std.proofs.shelf.Tests.{ltb-true, ltb-false, lt-ltb, eq-eqb, ne-eqb, cond-true, cond-false, cond-both}
 use Rattle.levels.specs.declared.numbers.BoatId.{BoatId}
-use Rattle.levels.specs.declared.ledger.Entry.{Entry}
 use Rattle.levels.specs.Verdicts.{Verdict, Bad}
 use Rattle.levels.specs.Entries.{floorOf, heard}
 use Rattle.levels.specs.Ledgers.{Book, answering}
-use Rattle.protocol.specs.Fleet.{put}
 use Rattle.protocol.proofs.Puts.{put-each, put-here}
 use Rattle.rehearsal.specs.declared.messages.Notice.{Notice}
-use Rattle.rehearsal.specs.declared.messages.Notice.the-variants.{Promised, Heard, Allowed, Taken}
+use Rattle.rehearsal.specs.declared.messages.Notice.the-variants.{Heard}
 use Rattle.rehearsal.specs.declared.events.Event.{Event}
-use Rattle.rehearsal.specs.declared.events.Event.the-variants.{Promise, Tick, Announce, BringNotice}
+use Rattle.rehearsal.specs.declared.events.Event.the-variants.{Promise, Tick, BringNotice}
 use Rattle.rehearsal.specs.Worlds.{World, BoatState, at, placeOf, stateAt, moored, noticed, booked, telling, tells, vowed, assured, confirmed, noNotice, hearingNotice, play}
 use Rattle.rehearsal.specs.Abstract.{boatOf, heardOf}
 use Rattle.rehearsal.specs.Promises.{after, plays}

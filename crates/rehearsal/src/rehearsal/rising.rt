@@ -42,7 +42,7 @@ fn bring_each(events: &mut Vec<Event>, boats: &[Entry], first: usize) -> Result<
     ensures { λ r. ⌜ OrMemory r (vec-items (now (events .exit)) ≡ vec-items (now (events .entry)) ++ spec.bringing (now (boats .entry)) first) ⌝ }
 {
     let mut number = first;
-    for listed in boats {
+    for _ in boats {
         events.push(Event::BringNotice { number })?;
         number += 1;
     }
@@ -147,7 +147,7 @@ impl Rehearsal {
         self.plan(heap, level)
     }
 
-    // Plays events none of which is refused.
+    // Plays events, the oldest first, none of which is refused by a rule.
     fn play_all(&mut self, events: &[Event]) -> Result<(), Refusal>
         requires { ⌜ taken (world (now self .fleet)) (now events) ≡ true ⌝ }
         ensures { λ r. ⌜ PlaysAll (now (events .entry)) (world (now (self .entry) .fleet)) (world (now (self .exit) .fleet)) r ⌝ }

@@ -1,7 +1,7 @@
-use mathlib.Core.Path.{_≡_, _∙_, sym, ap, subst}
+use mathlib.Core.Path.{_∙_, ap}
 use Rattle.std.proofs.shelf.Lists.{take-all}
 use Rattle.std.proofs.shelf.Results.{err-from-errBy}
-use Rattle.rehearsal.specs.Worlds.{World, world, play}
+use Rattle.rehearsal.specs.Worlds.{world, play}
 use Rattle.rehearsal.specs.Promises.{plays}
 use Rattle.rehearsal.proofs.Plans.{played-more, taken-next, taken-more, only-memory}
 use Rattle.rehearsal.proofs.rehearsal.Rehearsal.play_all.Needs as need

@@ -32,7 +32,6 @@ loop-listed-again c =
     elim (c .if-listed-level .came) [
       | then-listed-level·in-Continue-vouch-one x ↦
           (let F : ℕ → List Event = λ m. vec-items (c .if-listed-level .events) ++ vouching w k rest m in
-          let G : List Event → List Event = λ es. es ++ vouching w k rest (n + 2) in
           (ap F (x .next-is) ∙ ap (λ v. vec-items v ++ vouching w k rest (n + 2)) (x .events-is) ∙ pushed (vec-items (c .loop-listed .events)) (vec-items (x .vouch-one .last .events)) new (vouching w k rest (n + 2)) _ _ (x .in-Continue-vouch-one .ensures tt) (s ∙ cond-true _ _ _ (lt-ltb _ _ (x .if-listed-level .taken))) (c .loop-listed .inv .0), omega (arith, x .next-is, c .loop-listed .inv .1)))
       | else-listed-level x ↦
           (let F : ℕ → List Event = λ m. vec-items (c .if-listed-level .events) ++ vouching w k rest m in

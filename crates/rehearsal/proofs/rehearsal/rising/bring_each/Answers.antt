@@ -12,13 +12,13 @@ use Rattle.rehearsal.specs.Rising.{bringing}
 use Rattle.rehearsal.proofs.Plans.{pushed, finished}
 use Rattle.rehearsal.proofs.rehearsal.rising.bring_each.Needs as need
 
-pub loop-listed-again : need.loop-listed-again
-loop-listed-again c =
-    let n : ℕ = c .loop-listed .number in
+pub loop-again : need.loop-again
+loop-again c =
+    let n : ℕ = c .loop .number in
     let left : List Entry → List Event = λ es. bringing es n in
-    (pushed (vec-items (c .loop-listed .events)) (vec-items (c .push .last .self)) (BringNotice n ∷ []) (bringing (drop (c .loop-listed .listed-index + 1) (c .args .boats .now)) (n + 1)) _ _ (c .in-Continue-push .ensures tt .items) (at-drop-more left (c .args .boats .now) (c .loop-listed .listed-index) (entry 0 0) (c .loop-listed-test .taken)) (c .loop-listed .inv .0), omega (arith, c .loop-listed .inv .1))
+    (pushed (vec-items (c .loop .events)) (vec-items (c .push .last .self)) (BringNotice n ∷ []) (bringing (drop (c .loop .index + 1) (c .args .boats .now)) (n + 1)) _ _ (c .in-Continue-push .ensures tt .items) (at-drop-more left (c .args .boats .now) (c .loop .index) (entry 0 0) (c .loop-test .taken)) (c .loop .inv .0), omega (arith, c .loop .inv .1))
 
 pub returns : need.returns
 returns c =
-    let left : List Entry → List Event = λ es. bringing es (c .loop-listed .number) in
-    finished (vec-items (c .loop-listed .events)) _ _ (at-drop-all left (c .args .boats .now) (c .loop-listed .listed-index) (c .loop-listed-test .left)) (c .loop-listed .inv .0)
+    let left : List Entry → List Event = λ es. bringing es (c .loop .number) in
+    finished (vec-items (c .loop .events)) _ _ (at-drop-all left (c .args .boats .now) (c .loop .index) (c .loop-test .left)) (c .loop .inv .0)

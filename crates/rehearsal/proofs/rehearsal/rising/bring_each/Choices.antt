@@ -6,5 +6,5 @@ use Rattle.std.specs.Of.Vec.{vec-items}
 use Rattle.rehearsal.specs.Rising.{bringing}
 use Rattle.rehearsal.proofs.rehearsal.rising.bring_each.Given as given
 
-abbrev pub Inv-loop-listed : given.InvT-loop-listed
-Inv-loop-listed l = (vec-items (l .events) ++ bringing (drop (l .listed-index) (l .boats)) (l .number) ≡ vec-items (l .entry .events) ++ bringing (l .boats) (l .first)) × (l .number ≡ l .first + l .listed-index)
+abbrev pub Inv-loop : given.InvT-loop
+Inv-loop l = (vec-items (l .events) ++ bringing (drop (l .index) (l .boats)) (l .number) ≡ vec-items (l .entry .events) ++ bringing (l .boats) (l .first)) × (l .number ≡ l .first + l .index)
