@@ -52,7 +52,7 @@ abbrev pub outdated : World → ℕ → List Entry → Bool
 outdated w k [] = false
 outdated w k (e ∷ es) = ltb (boatOf w (e .boat .0) .standing .program) k || outdated w k es
 
--- the events, or why there are none: there is no level 0, and it is 4 where nobody is on the list, or somebody's program is too old
+-- the events, or why there are none: there is no level 0; and 4 where the list is empty, for a level above 1, or where a program is too old
 abbrev pub canRaise : ℕ → World → Result (List Event) Verdict
 canRaise k w =
     cond (eqb k 0) (Err Bad) (cond ((ltb 1 k && eqb (length (w .harbour .list)) 0) || outdated w k (w .harbour .list)) (Err (Number 4)) (Ok (raising k w)))
@@ -66,6 +66,7 @@ taken w (e ∷ es) = isOk (play w e) && taken (after w (play w e)) es
 abbrev pub numbersOf : List Entry → List ℕ
 numbersOf = map (λ (e : Entry). e .boat .0)
 
+-- what is true of v, which the events for k have made of w
 pub record Risen (k : ℕ) (w v : World) : Type 0 where
   -- each boat of the list has the level k or a higher one
   pub levels : (b : ℕ) → Listed w b → k ≤ boatOf v b .standing .level
