@@ -6,22 +6,30 @@ use Rattle.std.specs.Options.{valueOr}
 use Rattle.std.specs.declared.option.Option.{Option}
 use Rattle.std.specs.declared.option.Option.the-variants.{Some, None}
 use Rattle.levels.specs.Rules.{Boat}
-use Rattle.levels.specs.Standings.{first}
 use Rattle.levels.specs.Entries.{floorOf}
+use Rattle.forms.specs.Meaning.{formOf}
+use Rattle.logbook.specs.Logs.{Log, empty}
 use Rattle.protocol.specs.Fleet.{Machine}
 use Rattle.protocol.specs.Fleet as fleet
-use Rattle.rehearsal.specs.declared.messages.Word.{Word}
 use Rattle.rehearsal.specs.declared.messages.Notice.{Notice}
 use Rattle.rehearsal.specs.declared.messages.Notice.the-variants.{Promised, Heard, Allowed, Taken}
-use Rattle.rehearsal.specs.Worlds.{World, BoatState, begun, placeOf, stateAt}
+use Rattle.rehearsal.specs.Worlds.{World, Said, BoatState, fresh, placeOf, stateAt, logAt}
 
 -- the boat with a number; where there is none, one at its start
 abbrev pub seen : World → Option ℕ → BoatState
-seen w None = begun first
+seen w None = fresh
 seen w (Some i) = stateAt w i
 
 abbrev pub boatOf : World → ℕ → BoatState
 boatOf w b = seen w (placeOf w b)
+
+-- what the boat with a number keeps; where there is none, nothing
+abbrev pub logIn : World → Option ℕ → Log
+logIn w None = empty
+logIn w (Some i) = logAt w i
+
+abbrev pub logOf : World → ℕ → Log
+logOf w b = logIn w (placeOf w b)
 
 -- the highest floor that the harbour has heard of a boat, 1 where it is not on the list
 abbrev pub heardOf : World → ℕ → ℕ
@@ -30,8 +38,8 @@ heardOf w b = valueOr (floorOf b (w .harbour .list)) 1
 abbrev pub machineOf : Boat → Machine ℕ
 machineOf s = record { program = s .program; floor = s .floor; level = s .level; file = [] }
 
-abbrev pub wordOf : Word → fleet.Word ℕ
-wordOf x = record { from = x .from .0; to = x .to .0; number = 0; form = x .form .0 }
+abbrev pub wordOf : Said → fleet.Word ℕ
+wordOf x = record { from = x .from; to = x .to; number = x .number; form = formOf (x .spoken) }
 
 abbrev pub noticeOf : Notice → fleet.Notice ℕ
 noticeOf (Promised b f) = fleet.Promise (b .0) (f .0)

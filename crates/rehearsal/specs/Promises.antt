@@ -11,14 +11,16 @@ use Rattle.std.specs.declared.result.Result.{Result}
 use Rattle.std.specs.declared.result.Result.the-variants.{Ok, Err}
 use Rattle.levels.specs.Verdicts.{Verdict, Number}
 use Rattle.levels.specs.Rules.{reads}
+use Rattle.levels.specs.Standings.{running}
 use Rattle.levels.specs.Entries.{floorOf}
-use Rattle.rehearsal.specs.declared.messages.Word.{Word}
+use Rattle.forms.specs.Meaning.{formOf, get, without}
+use Rattle.logbook.specs.Slots.{Kept}
 use Rattle.rehearsal.specs.declared.messages.Notice.{Notice}
 use Rattle.rehearsal.specs.declared.messages.Notice.the-variants.{Promised, Heard, Allowed, Taken}
 use Rattle.rehearsal.specs.declared.events.Event.{Event}
 use Rattle.rehearsal.specs.declared.events.Event.the-variants.{GoBack, BringWord}
-use Rattle.rehearsal.specs.Worlds.{World, start, play, tells, placeOf, opening, stateAt, noWord}
-use Rattle.rehearsal.specs.Abstract.{boatOf, heardOf}
+use Rattle.rehearsal.specs.Worlds.{World, Said, begun, start, play, tells, placeOf, opening, stateAt, noWord}
+use Rattle.rehearsal.specs.Abstract.{boatOf, logOf, heardOf}
 
 -- the world after an event: what is refused changes nothing
 abbrev pub after : World → Result World Verdict → World
@@ -44,12 +46,28 @@ Holds w (Heard b f) = f .0 ≤ heardOf w (b .0)
 Holds w (Allowed b k) = k .0 ≤ w .harbour .said
 Holds w (Taken b k) = k .0 ≤ boatOf w (b .0) .standing .level
 
+-- of two words of one boat the later has the higher number; words are in the order of their sending
+abbrev pub Above : List Said → Said → Type 0
+Above xs y = (x : Said) → List·Memᴰ x xs → x .from ≡ y .from → x .number < y .number
+
+pub data Once : List Said → Type 0 where
+  none : Once []
+  more : {xs : List Said} (y : Said) → Once xs → Above xs y → Once (xs ++ y ∷ [])
+
 pub record Promises (w : World) : Type 0 where
   -- every word that was ever sent to a boat of the list is in a form that its program reads: whenever it comes, it is never turned away
-  pub readable : (x : Word) → List·Memᴰ x (w .words) → Listed w (x .to .0) → reads (boatOf w (x .to .0) .standing .program) (x .form .0) ≡ true
-  pub taken : (n : ℕ) → Listed w (getD (w .words) n noWord .to .0) → play w (BringWord n) ≡ Err (Number 1) → ⊥
+  pub readable : (x : Said) → List·Memᴰ x (w .words) → Listed w (x .to) → reads (boatOf w (x .to) .standing .program) (formOf (x .spoken)) ≡ true
+  pub taken : (n : ℕ) → Listed w (getD (w .words) n noWord .to) → play w (BringWord n) ≡ Err (Number 1) → ⊥
+  -- and what it reads is the word that was given to be said, less what the form of saying leaves out
+  pub meant : (x : Said) → List·Memᴰ x (w .words) → get (x .spoken) ≡ without (formOf (x .spoken)) (x .given)
+  -- every word that a boat keeps is in a form of at most its level; and so, on the list, in one that every program from its floor up reads
+  pub kept : (b : ℕ) (s : Kept) → List·Memᴰ s (logOf w b .slots) → formOf (s .word) ≤ boatOf w b .standing .level
+  pub legible : (b v : ℕ) (s : Kept) → List·Memᴰ s (logOf w b .slots) → Listed w b → boatOf w b .standing .floor ≤ v → reads v (formOf (s .word)) ≡ true
+  -- a boat's words have numbers from 1 up to those that it has used, and no two the same
+  pub numbered : (x : Said) → List·Memᴰ x (w .words) → (1 ≤ x .number) × (x .number ≤ boatOf w (x .from) .used)
+  pub once : Once (w .words)
   -- every word is in a form of at most the level of the boat that said it, and of at most the level said
-  pub spoken : (x : Word) → List·Memᴰ x (w .words) → (x .form .0 ≤ boatOf w (x .from .0) .standing .level) × (x .form .0 ≤ w .harbour .said)
+  pub spoken : (x : Said) → List·Memᴰ x (w .words) → (formOf (x .spoken) ≤ boatOf w (x .from) .standing .level) × (formOf (x .spoken) ≤ w .harbour .said)
   -- nobody's level is above the level said, nor that above the floor of anybody on the list, nor a floor above its program
   pub levels : (b : ℕ) → boatOf w b .standing .level ≤ w .harbour .said
   pub floors : (b : ℕ) → Listed w b → w .harbour .said ≤ boatOf w b .standing .floor
@@ -60,7 +78,7 @@ pub record Promises (w : World) : Type 0 where
   -- a boat that no longer tells its floor has it in the ledger
   pub silent : (b : ℕ) → tells (boatOf w b) ≡ false → boatOf w b .standing .floor ≤ heardOf w b
   -- going back to any older program from the floor up succeeds
-  pub back : (b i to : ℕ) → placeOf w b ≡ Some i → stateAt w i .standing .floor ≤ to → to < stateAt w i .standing .program → play w (GoBack (record { 0 = b }) (record { 0 = to })) ≡ Ok (opening w i b (record { program = to; floor = stateAt w i .standing .floor; level = stateAt w i .standing .level }))
+  pub back : (b i to : ℕ) → placeOf w b ≡ Some i → stateAt w i .standing .floor ≤ to → to < stateAt w i .standing .program → play w (GoBack (record { 0 = b }) (record { 0 = to })) ≡ Ok (opening w i b (begun (running (stateAt w i .standing) to) (stateAt w i .used)))
 
 -- the one theorem: so it is after every list of events
 abbrev pub RunPromises : Type 0

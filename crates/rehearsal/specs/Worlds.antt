@@ -1,6 +1,6 @@
 -- The fleet as a world of values, and what each event makes of it.
 -- Assumes nothing.
-use Prim.Native.Nat.{ℕ, _-_}
+use Prim.Native.Nat.{ℕ, _+_, _-_}
 use mathlib.Core.Path.{_≡_}
 use mathlib.Core.Bool.{Bool, true, false, cond, not, _&&_, _||_}
 use mathlib.Core.List.{List, [], _∷_, _++_, map}
@@ -13,17 +13,20 @@ use Rattle.std.specs.declared.option.Option.the-variants.{Some, None}
 use Rattle.std.specs.declared.result.Result.{Result}
 use Rattle.std.specs.declared.result.Result.the-variants.{Ok, Err}
 use Rattle.levels.specs.declared.numbers.BoatId.{BoatId}
-use Rattle.levels.specs.declared.numbers.FormNumber.{FormNumber}
 use Rattle.levels.specs.declared.numbers.Level.{Level}
 use Rattle.levels.specs.declared.numbers.Program.{Program}
 use Rattle.levels.specs.declared.ledger.Entry.{Entry}
 use Rattle.levels.specs.declared.refusals.Refusal.{Refusal}
 use Rattle.levels.specs.Verdicts.{Verdict, Number, Bad, Memory, verdict}
-use Rattle.levels.specs.Rules.{Boat, reads, sayForm}
+use Rattle.levels.specs.Rules.{Boat, reads, sayForm, keepForm}
 use Rattle.levels.specs.Standings.{view, first, renewed, goneBack, promised, raised}
 use Rattle.levels.specs.Entries.{floorOf}
 use Rattle.levels.specs.Ledgers.{Book, book, blank, listing, hearing, saying}
-use Rattle.rehearsal.specs.declared.messages.Word.{Word}
+use Rattle.forms.specs.Meaning.{Meaning, Uttered, first as first-form, formOf, put, get}
+use Rattle.forms.specs.Said.{meaning, said}
+use Rattle.logbook.specs.declared.log.Logbook.{Logbook}
+use Rattle.logbook.specs.Logs.{Log, log, empty, taking, fallen}
+use Rattle.rehearsal.specs.declared.messages.Sent.{Sent}
 use Rattle.rehearsal.specs.declared.messages.Notice.{Notice}
 use Rattle.rehearsal.specs.declared.messages.Notice.the-variants.{Promised, Heard, Allowed, Taken}
 use Rattle.rehearsal.specs.declared.events.Event.{Event}
@@ -32,35 +35,58 @@ use Rattle.rehearsal.specs.declared.fleet.Vessel.{Vessel}
 use Rattle.rehearsal.specs.declared.fleet.Berth.{Berth}
 use Rattle.rehearsal.specs.declared.fleet.Fleet.{Fleet}
 
--- a boat: its standing, and whether the harbour has answered its promise
+-- a boat: its standing, whether the harbour has answered its promise, and the numbers that it has used for its words
 pub record BoatState : Type 0 where
   pub standing : Boat
   pub answered : Bool
+  pub used : ℕ
 
--- boat number i stands at place i - 1; the oldest word and the oldest notice come first
+-- a word that was sent: what was given to be said, and what was said
+pub record Said : Type 0 where
+  pub from : ℕ
+  pub to : ℕ
+  pub number : ℕ
+  pub given : Meaning
+  pub spoken : Uttered
+
+-- boat number i stands at place i - 1, and so does what it keeps of the words that it took; the oldest word and the oldest notice come first
 pub record World : Type 0 where
   pub boats : List BoatState
+  pub logs : List Log
   pub harbour : Book
-  pub words : List Word
+  pub words : List Said
   pub notices : List Notice
 
 -- the code's fleet as such a world
 abbrev pub state : Vessel → BoatState
-state v = record { standing = view (v .standing); answered = v .answered }
+state v = record { standing = view (v .standing); answered = v .answered; used = v .used }
 
 abbrev pub states : List Vessel → List BoatState
 states = map state
 
+abbrev pub sent : Sent → Said
+sent x = record { from = x .from .0; to = x .to .0; number = x .number; given = meaning (x .given); spoken = said (x .spoken) }
+
+abbrev pub allSent : List Sent → List Said
+allSent = map sent
+
+abbrev pub allLogs : List Logbook → List Log
+allLogs = map log
+
 abbrev pub world : Fleet → World
-world f = record { boats = states (vec-items (f .boats)); harbour = book (f .harbour); words = vec-items (f .words); notices = vec-items (f .notices) }
+world f = record { boats = states (vec-items (f .boats)); logs = allLogs (vec-items (f .logs)); harbour = book (f .harbour); words = allSent (vec-items (f .words)); notices = vec-items (f .notices) }
 
 -- a program that begins: nothing is answered yet
-abbrev pub begun : Boat → BoatState
-begun s = record { standing = s; answered = false }
+abbrev pub begun : Boat → ℕ → BoatState
+begun s n = record { standing = s; answered = false; used = n }
+
+-- a boat at its start
+abbrev pub fresh : BoatState
+fresh = begun first 0
 
 -- n boats at their start, nobody on the list, nothing sent
 abbrev pub start : ℕ → World
-start n = record { boats = replicate n (begun first); harbour = blank; words = []; notices = [] }
+start n = record { boats = replicate n fresh; logs = replicate n empty; harbour = blank; words = []; notices = [] }
 
 -- a fleet is made of 1 to 8 boats, or there is no memory
 abbrev pub Begins : ℕ → Result Fleet Refusal → Type 0
@@ -72,7 +98,10 @@ abbrev pub placeOf : World → ℕ → Option ℕ
 placeOf w b = cond (leb 1 b && leb b (length (w .boats))) (Some (b - 1)) None
 
 abbrev pub stateAt : World → ℕ → BoatState
-stateAt w i = getD (w .boats) i (begun first)
+stateAt w i = getD (w .boats) i fresh
+
+abbrev pub logAt : World → ℕ → Log
+logAt w i = getD (w .logs) i empty
 
 -- what a look for the boat with the number b finds: nothing, or its place and the boat
 abbrev pub Found : World → ℕ → Option Berth → Type 0
@@ -84,43 +113,49 @@ abbrev pub at : Option ℕ → (ℕ → Result World Verdict) → Result World V
 at None f = Err Bad
 at (Some i) f = f i
 
--- outcomes: a boat is another; a notice more was sent; the ledger is another
+-- outcomes: a boat is another; what it keeps is another; a notice more was sent; the ledger is another; a word more was sent
 abbrev pub moored : World → ℕ → BoatState → World
-moored w i s = record { boats = set (w .boats) i s; harbour = w .harbour; words = w .words; notices = w .notices }
+moored w i s = record { boats = set (w .boats) i s; logs = w .logs; harbour = w .harbour; words = w .words; notices = w .notices }
+
+abbrev pub logged : World → ℕ → Log → World
+logged w i l = record { boats = w .boats; logs = set (w .logs) i l; harbour = w .harbour; words = w .words; notices = w .notices }
 
 abbrev pub noticed : World → Notice → World
-noticed w n = record { boats = w .boats; harbour = w .harbour; words = w .words; notices = w .notices ++ n ∷ [] }
+noticed w n = record { boats = w .boats; logs = w .logs; harbour = w .harbour; words = w .words; notices = w .notices ++ n ∷ [] }
 
 abbrev pub booked : World → Book → World
-booked w x = record { boats = w .boats; harbour = x; words = w .words; notices = w .notices }
+booked w x = record { boats = w .boats; logs = w .logs; harbour = x; words = w .words; notices = w .notices }
 
-abbrev pub spoken : World → Word → World
-spoken w x = record { boats = w .boats; harbour = w .harbour; words = w .words ++ x ∷ []; notices = w .notices }
+abbrev pub spoken : World → Said → World
+spoken w x = record { boats = w .boats; logs = w .logs; harbour = w .harbour; words = w .words ++ x ∷ []; notices = w .notices }
 
 -- what a boat tells of its floor
 abbrev pub telling : ℕ → ℕ → Notice
 telling b f = Promised (record { 0 = b }) (record { 0 = f })
 
--- a program begins on boat b, at place i, with the standing s: it tells a floor above 1
-abbrev pub opening : World → ℕ → ℕ → Boat → World
-opening w i b s = cond (ltb 1 (s .floor)) (noticed (moored w i (begun s)) (telling b (s .floor))) (moored w i (begun s))
+-- a program begins on boat b, at place i, which is s from now on: what it has not written down is forgotten, and it tells a floor above 1
+abbrev pub reopened : World → ℕ → BoatState → World
+reopened w i s = logged (moored w i s) i (fallen (logAt w i))
 
-abbrev pub opened : World → ℕ → ℕ → Result Boat Verdict → Result World Verdict
-opened w i b (Ok s) = Ok (opening w i b s)
-opened w i b (Err v) = Err v
+abbrev pub opening : World → ℕ → ℕ → BoatState → World
+opening w i b s = cond (ltb 1 (s .standing .floor)) (noticed (reopened w i s) (telling b (s .standing .floor))) (reopened w i s)
+
+abbrev pub opened : World → ℕ → ℕ → ℕ → Result Boat Verdict → Result World Verdict
+opened w i b n (Ok s) = Ok (opening w i b (begun s n))
+opened w i b n (Err v) = Err v
 
 abbrev pub renewing : World → ℕ → ℕ → Result World Verdict
-renewing w b to = at (placeOf w b) (λ i. opened w i b (renewed (stateAt w i .standing) to))
+renewing w b to = at (placeOf w b) (λ i. opened w i b (stateAt w i .used) (renewed (stateAt w i .standing) to))
 
 abbrev pub goingBack : World → ℕ → ℕ → Result World Verdict
-goingBack w b to = at (placeOf w b) (λ i. opened w i b (goneBack (stateAt w i .standing) to))
+goingBack w b to = at (placeOf w b) (λ i. opened w i b (stateAt w i .used) (goneBack (stateAt w i .standing) to))
 
 abbrev pub restarting : World → ℕ → Result World Verdict
-restarting w b = at (placeOf w b) (λ i. Ok (opening w i b (stateAt w i .standing)))
+restarting w b = at (placeOf w b) (λ i. Ok (opening w i b (begun (stateAt w i .standing) (stateAt w i .used))))
 
 -- the floor becomes the program's number; an answer counts on only where it was that already
 abbrev pub vowed : BoatState → BoatState
-vowed s = record { standing = promised (s .standing); answered = s .answered && leb (s .standing .program) (s .standing .floor) }
+vowed s = record { standing = promised (s .standing); answered = s .answered && leb (s .standing .program) (s .standing .floor); used = s .used }
 
 abbrev pub promising : World → ℕ → Result World Verdict
 promising w b = at (placeOf w b) (λ i. Ok (noticed (moored w i (vowed (stateAt w i))) (telling b (stateAt w i .standing .program))))
@@ -140,7 +175,7 @@ abbrev pub toEach : ℕ → List Entry → List Notice
 toEach k = map (allowing k)
 
 abbrev pub toldEach : World → ℕ → World
-toldEach w k = record { boats = w .boats; harbour = w .harbour; words = w .words; notices = w .notices ++ toEach k (w .harbour .list) }
+toldEach w k = record { boats = w .boats; logs = w .logs; harbour = w .harbour; words = w .words; notices = w .notices ++ toEach k (w .harbour .list) }
 
 abbrev pub announced : World → ℕ → Result Book Verdict → Result World Verdict
 announced w k (Ok x) = Ok (toldEach (booked w x) k)
@@ -157,17 +192,32 @@ enlisted w (Err v) = Err v
 abbrev pub enlisting : World → ℕ → Result World Verdict
 enlisting w b = at (placeOf w b) (λ i. enlisted w (listing (w .harbour) b))
 
--- a word is said in the form that the speaker's standing allows; one that was given in a form that its program doesn't know is refused, 1
-abbrev pub wordOf : ℕ → ℕ → Boat → Word
-wordOf i j s = record { from = record { 0 = i }; to = record { 0 = j }; form = record { 0 = sayForm s j } }
+-- a word goes out in the form that the speaker's standing allows, with the next number
+abbrev pub wordOf : ℕ → ℕ → BoatState → Uttered → Said
+wordOf i j s u = record { from = i; to = j; number = s .used + 1; given = get u; spoken = put (sayForm (s .standing) j) (get u) }
 
-abbrev pub talking : World → ℕ → ℕ → ℕ → Result World Verdict
-talking w i j given =
-    at (placeOf w i) (λ p. cond (isSome (placeOf w j) && not (eqb j i)) (cond (reads (stateAt w p .standing .program) given) (Ok (spoken w (wordOf i j (stateAt w p .standing)))) (Err (Number 1))) (Err Bad))
+abbrev pub counted : BoatState → BoatState
+counted s = record { standing = s .standing; answered = s .answered; used = s .used + 1 }
 
--- a word comes: what the program doesn't read is turned away, 1
-abbrev pub hearingWord : World → Word → Result World Verdict
-hearingWord w x = at (placeOf w (x .to .0)) (λ i. cond (reads (stateAt w i .standing .program) (x .form .0)) (Ok w) (Err (Number 1)))
+abbrev pub talked : World → ℕ → ℕ → ℕ → BoatState → Uttered → World
+talked w p i j s u = moored (spoken w (wordOf i j s u)) p (counted s)
+
+-- one that was given in a form that the speaker's program doesn't know is refused, 1; the numbers are used up at 2^32, 6
+abbrev pub talking : World → ℕ → ℕ → Uttered → Result World Verdict
+talking w i j u =
+    at (placeOf w i) (λ p. cond (isSome (placeOf w j) && not (eqb j i)) (cond (reads (stateAt w p .standing .program) (formOf u)) (cond (leb 4294967296 (stateAt w p .used + 1)) (Err (Number 6)) (Ok (talked w p i j (stateAt w p) u))) (Err (Number 1))) (Err Bad))
+
+-- a word comes: what the program doesn't read is turned away, 1; else it is for the boat to take or to pass over
+abbrev pub keptBy : World → ℕ → Result Log Verdict → Result World Verdict
+keptBy w i (Ok l) = Ok (logged w i l)
+keptBy w i (Err v) = Err v
+
+abbrev pub taken : World → ℕ → Boat → Said → Result Log Verdict
+taken w i s x = cond (ltb i (length (w .logs))) (taking (logAt w i) (x .from) (x .number) (x .spoken) (keepForm s (formOf (x .spoken)))) (Err Bad)
+
+abbrev pub hearingWord : World → Said → Result World Verdict
+hearingWord w x =
+    at (placeOf w (x .to)) (λ i. cond (reads (stateAt w i .standing .program) (formOf (x .spoken))) (keptBy w i (taken w i (stateAt w i .standing) x)) (Err (Number 1)))
 
 -- the harbour answers a promise with the highest that it has of that boat
 abbrev pub confirmed : World → ℕ → Result (ℕ × Book) Verdict → Result World Verdict
@@ -176,12 +226,12 @@ confirmed w b (Err v) = Err v
 
 -- an answer to the floor, or to more, is one
 abbrev pub assured : BoatState → ℕ → BoatState
-assured s f = record { standing = s .standing; answered = s .answered || leb (s .standing .floor) f }
+assured s f = record { standing = s .standing; answered = s .answered || leb (s .standing .floor) f; used = s .used }
 
 -- a boat takes a level above its own, and answers with the one that it has then
 abbrev pub learned : World → ℕ → ℕ → ℕ → World
 learned w i b k =
-    noticed (moored w i (record { standing = raised (stateAt w i .standing) k; answered = stateAt w i .answered })) (Taken (record { 0 = b }) (record { 0 = raised (stateAt w i .standing) k .level }))
+    noticed (moored w i (record { standing = raised (stateAt w i .standing) k; answered = stateAt w i .answered; used = stateAt w i .used })) (Taken (record { 0 = b }) (record { 0 = raised (stateAt w i .standing) k .level }))
 
 -- that a level was taken changes nothing
 abbrev pub acknowledging : World → ℕ → Result World Verdict
@@ -194,8 +244,8 @@ hearingNotice w (Heard b f) = at (placeOf w (b .0)) (λ i. Ok (moored w i (assur
 hearingNotice w (Allowed b k) = at (placeOf w (b .0)) (λ i. Ok (learned w i (b .0) (k .0)))
 hearingNotice w (Taken b k) = acknowledging w (b .0)
 
-abbrev pub noWord : Word
-noWord = record { from = record { 0 = 0 }; to = record { 0 = 0 }; form = record { 0 = 0 } }
+abbrev pub noWord : Said
+noWord = record { from = 0; to = 0; number = 0; given = record { ship = 0; lock = 0; before = 0; behind = 0; name = [] }; spoken = first-form 0 0 0 }
 
 abbrev pub noNotice : Notice
 noNotice = Taken (record { 0 = 0 }) (record { 0 = 0 })
@@ -215,6 +265,6 @@ play w (Restart b) = restarting w (b .0)
 play w (Promise b) = promising w (b .0)
 play w (Tick b) = ticking w (b .0)
 play w (Announce k) = announcing w (k .0)
-play w (Say i j given) = talking w (i .0) (j .0) (given .0)
+play w (Say i j u) = talking w (i .0) (j .0) (said u)
 play w (BringWord n) = bringingWord w n
 play w (BringNotice n) = bringingNotice w n

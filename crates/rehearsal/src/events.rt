@@ -1,6 +1,6 @@
 // What may happen.
+use forms::word::Spoken;
 use levels::numbers::BoatId;
-use levels::numbers::FormNumber;
 use levels::numbers::Level;
 use levels::numbers::Program;
 
@@ -38,11 +38,7 @@ pub enum Event {
         level: Level,
     },
     // a boat says a word to another; the word was given to it in some form
-    Say {
-        from: BoatId,
-        to: BoatId,
-        given: FormNumber,
-    },
+    Say { from: BoatId, to: BoatId, word: Spoken },
     // a word that was sent comes to the boat that it is for
     BringWord {
         number: usize,

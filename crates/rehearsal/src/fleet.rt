@@ -1,17 +1,19 @@
 // The harbour, the boats, and all that was ever sent.
 use crate::messages::Notice;
-use crate::messages::Word;
+use crate::messages::Sent;
 use levels::ledger::Ledger;
 use levels::standing::Standing;
+use logbook::log::Logbook;
 
 mod reads;
 mod steps;
 
-// A boat: its standing, and whether the harbour has answered its promise, which it forgets when its program ends.
+// A boat: its standing, whether the harbour has answered its promise, which it forgets when its program ends, and the numbers that it has used for its words.
 #[derive(Clone, Copy)]
 pub struct Vessel {
     pub standing: Standing,
     pub answered: bool,
+    pub used: u32,
 }
 
 // A boat and where it stands.
@@ -21,11 +23,12 @@ struct Berth {
     vessel: Vessel,
 }
 
-// Boat number i stands at place i - 1. What was sent is never taken away, the oldest first.
+// Boat number i stands at place i - 1, and there is what it keeps of the words that it took. What was sent is never taken away, the oldest first.
 #[derive(Drop)]
 pub struct Fleet {
     harbour: Ledger,
     boats: Vec<Vessel>,
-    words: Vec<Word>,
+    logs: Vec<Logbook>,
+    words: Vec<Sent>,
     notices: Vec<Notice>,
 }

@@ -1,15 +1,18 @@
 // What is said. A message may come at once, late, more than once, or never.
+use forms::word::Spoken;
+use forms::word::Word;
 use levels::numbers::BoatId;
-use levels::numbers::FormNumber;
 use levels::numbers::Level;
 use levels::numbers::Program;
 
-// A word of one boat to another, in some form.
+// A word of one boat to another, as it went out: numbered, and in some form. Beside it stands the word that was given to be said, which nobody but the rehearsal knows.
 #[derive(Clone, Copy)]
-pub struct Word {
+pub struct Sent {
     pub from: BoatId,
     pub to: BoatId,
-    pub form: FormNumber,
+    pub number: u32,
+    pub given: Word,
+    pub spoken: Spoken,
 }
 
 // What boats and harbour tell each other about programs. Each states a fact that stays true for ever.

@@ -1,15 +1,16 @@
 // A new fleet, and looking at one.
 ghost use mathlib.Core.Path.{_≡_};
 ghost use Rattle.levels.specs.Ledgers.{book};
-ghost use Rattle.rehearsal.specs.Worlds.{world, states, Begins};
+ghost use Rattle.rehearsal.specs.Worlds.{world, states, allLogs, allSent, Begins};
 use super::Fleet;
 use super::Vessel;
 use crate::messages::Notice;
-use crate::messages::Word;
+use crate::messages::Sent;
 use levels::ledger::Ledger;
 use levels::refusals::Refusal;
 use levels::refusals::RefusalFromRefused;
 use levels::standing::Standing;
+use logbook::log::Logbook;
 use std::alloc::Global;
 
 // How many boats a rehearsal takes.
@@ -24,15 +25,19 @@ impl Fleet {
             return Err(Refusal::Invalid);
         }
         let mut vessels = Vec::new(heap);
+        let mut logs = Vec::new(heap);
         for _ in 0..boats {
             vessels.push(Vessel {
                 standing: Standing::first(),
                 answered: false,
+                used: 0,
             })?;
+            logs.push(Logbook::new(heap))?;
         }
         Ok(Fleet {
             harbour: Ledger::new(heap),
             boats: vessels,
+            logs,
             words: Vec::new(heap),
             notices: Vec::new(heap),
         })
@@ -52,9 +57,16 @@ impl Fleet {
         &self.harbour
     }
 
+    // What each boat keeps of the words that it took.
+    pub fn logs(&self) -> &[Logbook]
+        ensures { λ r. ⌜ allLogs (now r) ≡ world (now (self .entry)) .logs ⌝ }
+    {
+        self.logs.as_slice()
+    }
+
     // Every word that was ever sent, the oldest first.
-    pub fn words(&self) -> &[Word]
-        ensures { λ r. ⌜ now r ≡ world (now (self .entry)) .words ⌝ }
+    pub fn words(&self) -> &[Sent]
+        ensures { λ r. ⌜ allSent (now r) ≡ world (now (self .entry)) .words ⌝ }
     {
         self.words.as_slice()
     }

@@ -4,7 +4,9 @@ ghost use Prim.Native.Nat.{_+_, _<_, _≤_};
 ghost use lib.ListN.{length};
 ghost use mathlib.Core.List.{_++_};
 ghost use Rattle.std.specs.Of.Vec.{vec-items, vec-len, vec-cap};
+ghost use Rattle.forms.specs.Said.{said};
 ghost use Rattle.levels.specs.Standings.{view};
+ghost use Rattle.logbook.specs.Logs.{fallen};
 ghost use Rattle.levels.specs.Verdicts.{Does, Tries, told};
 ghost use Rattle.rehearsal.specs.declared.messages.Notice.the-variants.{Promised, Heard, Allowed};
 ghost use Rattle.std.specs.declared.result.Result.the-variants.{Ok};
@@ -15,12 +17,12 @@ use super::Fleet;
 use super::Vessel;
 use crate::events::Event;
 use crate::messages::Notice;
-use crate::messages::Word;
+use crate::messages::Sent;
+use forms::word::Spoken;
 use levels::ledger::Entry;
 use levels::ledger::Ledger;
 use levels::numbers::BoatId;
 use levels::numbers::BoatIdPartialEq;
-use levels::numbers::FormNumber;
 use levels::numbers::Level;
 use levels::numbers::Program;
 use levels::numbers::ProgramPartialOrd;
@@ -30,6 +32,9 @@ use levels::refusals::RefusalFromRefused;
 use levels::rules::reads;
 use levels::standing::Standing;
 use std::alloc::Global;
+
+// Where the numbers of a boat's words are used up.
+const NUMBERS_END: u64 = 4294967296;
 
 // A level is told to each boat of a list.
 fn tell_each(notices: &mut Vec<Notice>, boats: &[Entry], level: Level)
@@ -76,23 +81,24 @@ impl Fleet {
         Ok(())
     }
 
-    // A program begins at a place: it has its standing, and tells a floor above 1.
-    fn open(&mut self, place: usize, boat: BoatId, standing: Standing) -> Result<(), Refusal>
-        ensures { λ r. ⌜ Tries (Ok (spec.opening (world (now (self .entry))) place (boat .0) (view standing))) r (world (now (self .entry))) (world (now (self .exit))) ⌝ }
+    // What a boat has not written down is forgotten.
+    fn forget(&mut self, place: usize)
+        ensures { λ _. ⌜ world (now (self .exit)) ≡ spec.logged (world (now (self .entry))) place (fallen (spec.logAt (world (now (self .entry))) place)) ⌝ }
     {
-        if standing.floor.0 > 1 {
-            self.tell(Notice::Promised {
-                from: boat,
-                floor: standing.floor,
-            })?;
+        if place < self.logs.len() {
+            self.logs[place].fall();
         }
-        self.moor(
-            place,
-            Vessel {
-                standing,
-                answered: false,
-            },
-        );
+    }
+
+    // A program begins at a place: it has its standing and its numbers, and tells a floor above 1.
+    fn open(&mut self, place: usize, boat: BoatId, vessel: Vessel) -> Result<(), Refusal>
+        ensures { λ r. ⌜ Tries (Ok (spec.opening (world (now (self .entry))) place (boat .0) (state vessel))) r (world (now (self .entry))) (world (now (self .exit))) ⌝ }
+    {
+        if vessel.standing.floor.0 > 1 {
+            self.tell(Notice::Promised { from: boat, floor: vessel.standing.floor })?;
+        }
+        self.moor(place, vessel);
+        self.forget(place);
         Ok(())
     }
 
@@ -103,7 +109,7 @@ impl Fleet {
             return Err(Refusal::Invalid);
         };
         let standing = at.vessel.standing.renewed(to)?;
-        self.open(at.place, boat, standing)?;
+        self.open(at.place, boat, Vessel { standing, answered: false, used: at.vessel.used })?;
         Ok(())
     }
 
@@ -114,7 +120,7 @@ impl Fleet {
             return Err(Refusal::Invalid);
         };
         let standing = at.vessel.standing.gone_back(to)?;
-        self.open(at.place, boat, standing)?;
+        self.open(at.place, boat, Vessel { standing, answered: false, used: at.vessel.used })?;
         Ok(())
     }
 
@@ -124,7 +130,8 @@ impl Fleet {
         let Some(at) = self.find(boat) else {
             return Err(Refusal::Invalid);
         };
-        self.open(at.place, boat, at.vessel.standing)?;
+        let Vessel { standing, answered: _, used } = at.vessel;
+        self.open(at.place, boat, Vessel { standing, answered: false, used })?;
         Ok(())
     }
 
@@ -142,7 +149,7 @@ impl Fleet {
             from: boat,
             floor: before.program,
         })?;
-        self.moor(at.place, Vessel { standing, answered });
+        self.moor(at.place, Vessel { standing, answered, used: at.vessel.used });
         Ok(())
     }
 
@@ -169,9 +176,9 @@ impl Fleet {
         Ok(())
     }
 
-    // The word goes out in the form that the speaker's standing allows, whatever form it was given in.
-    fn say(&mut self, from: BoatId, to: BoatId, given: FormNumber) -> Result<(), Refusal>
-        ensures { λ r. ⌜ Tries (spec.talking (world (now (self .entry))) (from .0) (to .0) (given .0)) r (world (now (self .entry))) (world (now (self .exit))) ⌝ }
+    // The word goes out in the form that the speaker's standing allows, whatever form it was given in, with the next number.
+    fn say(&mut self, from: BoatId, to: BoatId, word: Spoken) -> Result<(), Refusal>
+        ensures { λ r. ⌜ Tries (spec.talking (world (now (self .entry))) (from .0) (to .0) (said word)) r (world (now (self .entry))) (world (now (self .exit))) ⌝ }
     {
         let Some(at) = self.find(from) else {
             return Err(Refusal::Invalid);
@@ -179,11 +186,18 @@ impl Fleet {
         if self.find(to).is_none() || to == from {
             return Err(Refusal::Invalid);
         }
-        if !reads(at.vessel.standing.program, given) {
+        if !reads(at.vessel.standing.program, word.form()) {
             return Err(Refusal::Malformed);
         }
-        let form = at.vessel.standing.say_form(to);
-        self.words.push(Word { from, to, form })?;
+        let next = at.vessel.used as u64 + 1;
+        if next >= NUMBERS_END {
+            return Err(Refusal::Full);
+        }
+        let number = next as u32;
+        let given = word.read();
+        let spoken = given.put(at.vessel.standing.say_form(to));
+        self.words.push(Sent { from, to, number, given, spoken })?;
+        self.moor(at.place, Vessel { standing: at.vessel.standing, answered: at.vessel.answered, used: number });
         Ok(())
     }
 
@@ -210,7 +224,7 @@ impl Fleet {
         };
         let standing = at.vessel.standing;
         let answered = at.vessel.answered || standing.floor <= floor;
-        self.moor(at.place, Vessel { standing, answered });
+        self.moor(at.place, Vessel { standing, answered, used: at.vessel.used });
         Ok(())
     }
 
@@ -228,10 +242,7 @@ impl Fleet {
         })?;
         self.moor(
             at.place,
-            Vessel {
-                standing,
-                answered: at.vessel.answered,
-            },
+            Vessel { standing, answered: at.vessel.answered, used: at.vessel.used },
         );
         Ok(())
     }
@@ -260,21 +271,33 @@ impl Fleet {
         Ok(())
     }
 
+    // A boat takes a word, or passes it over.
+    fn keep(&mut self, at: Berth, sent: Sent) -> Result<(), Refusal>
+        ensures { λ r. ⌜ Tries (spec.keptBy (world (now (self .entry))) (at .place) (spec.taken (world (now (self .entry))) (at .place) (view (at .vessel .standing)) (spec.sent sent))) r (world (now (self .entry))) (world (now (self .exit))) ⌝ }
+    {
+        if at.place >= self.logs.len() {
+            return Err(Refusal::Invalid);
+        }
+        let most = at.vessel.standing.keep_form(sent.spoken.form());
+        self.logs[at.place].take(sent.from, sent.number, sent.spoken, most)?;
+        Ok(())
+    }
+
     // A word comes to the boat that it is for. One that its program does not read is turned away.
-    fn bring_word(&self, number: usize) -> Result<(), Refusal>
-        ensures { λ r. ⌜ told (λ _. world (now (self .entry))) r ≡ spec.bringingWord (world (now (self .entry))) number ⌝ }
+    fn bring_word(&mut self, number: usize) -> Result<(), Refusal>
+        ensures { λ r. ⌜ Tries (spec.bringingWord (world (now (self .entry))) number) r (world (now (self .entry))) (world (now (self .exit))) ⌝ }
     {
         if number >= self.words.len() {
             return Err(Refusal::Invalid);
         }
-        let word = self.words[number];
-        let Some(at) = self.find(word.to) else {
+        let sent = self.words[number];
+        let Some(at) = self.find(sent.to) else {
             return Err(Refusal::Invalid);
         };
-        if !reads(at.vessel.standing.program, word.form) {
+        if !reads(at.vessel.standing.program, sent.spoken.form()) {
             return Err(Refusal::Malformed);
         }
-        Ok(())
+        self.keep(at, sent)
     }
 
     fn announce(&mut self, level: Level) -> Result<(), Refusal>
@@ -299,7 +322,7 @@ impl Fleet {
             Event::Promise { boat } => self.promise(boat),
             Event::Tick { boat } => self.tick(boat),
             Event::Announce { level } => self.announce(level),
-            Event::Say { from, to, given } => self.say(from, to, given),
+            Event::Say { from, to, word } => self.say(from, to, word),
             Event::BringWord { number } => self.bring_word(number),
             Event::BringNotice { number } => self.bring_notice(number),
         }

@@ -3,7 +3,7 @@ ghost use mathlib.Core.Path.{_≡_};
 ghost use Rattle.std.specs.Of.Vec.{vec-items};
 ghost use Rattle.levels.specs.Ledgers.{book};
 ghost use Rattle.levels.specs.Verdicts.{Tries};
-ghost use Rattle.rehearsal.specs.Worlds.{world, states};
+ghost use Rattle.rehearsal.specs.Worlds.{world, states, allLogs, allSent};
 ghost use Rattle.rehearsal.specs.Worlds as spec;
 ghost use Rattle.rehearsal.specs.Rehearsals.{Began};
 ghost use Rattle.rehearsal.specs.Promises.{Promises, RunPromises};
@@ -13,9 +13,10 @@ use crate::events::Event;
 use crate::fleet::Fleet;
 use crate::fleet::Vessel;
 use crate::messages::Notice;
-use crate::messages::Word;
+use crate::messages::Sent;
 use levels::ledger::Ledger;
 use levels::refusals::Refusal;
+use logbook::log::Logbook;
 use std::alloc::Global;
 
 impl Rehearsal {
@@ -49,9 +50,16 @@ impl Rehearsal {
         self.fleet.harbour()
     }
 
+    // What each boat keeps of the words that it took.
+    pub fn logs(&self) -> &[Logbook]
+        ensures { λ r. ⌜ allLogs (now r) ≡ world (now (self .entry) .fleet) .logs ⌝ }
+    {
+        self.fleet.logs()
+    }
+
     // Every word that was ever sent, the oldest first.
-    pub fn words(&self) -> &[Word]
-        ensures { λ r. ⌜ now r ≡ world (now (self .entry) .fleet) .words ⌝ }
+    pub fn words(&self) -> &[Sent]
+        ensures { λ r. ⌜ allSent (now r) ≡ world (now (self .entry) .fleet) .words ⌝ }
     {
         self.fleet.words()
     }
