@@ -26,9 +26,10 @@ use Rattle.rehearsal.specs.Worlds.{World, world, state, states, begun, play}
 use Rattle.rehearsal.specs.Abstract.{seen, boatOf}
 use Rattle.rehearsal.specs.Promises.{after, plays}
 use Rattle.rehearsal.specs.Rising.{vouching, behind, bringing, levelsNotice, raising, canRaise, taken}
-use Rattle.rehearsal.specs.Calls.{eventsOf, Halted}
+use Rattle.rehearsal.specs.Calls.{Halted}
 use Rattle.rehearsal.proofs.Views.{nowhere, somewhere}
 use Rattle.rehearsal.proofs.Kept.{plays-push}
+use Rattle.rehearsal.proofs.Rises.{rising-ok}
 
 -- at most all are behind
 pub behind-most : (k : ℕ) (es : List Entry) → behind k es ≤ length es
@@ -89,11 +90,20 @@ only-memory (Ok w) rest Memory t d = refl
 only-memory (Err e) rest v t d = let z : _≡_ {A = ℕ} 0 1 = cc in absurd (omega arith)
 
 -- a refusal before anything is played
+there-are : (k : ℕ) (w : World) → isOk (canRaise k w) ≡ true → canRaise k w ≡ Ok (raising k w)
+there-are k w = go (canRaise k w) refl
+  where
+    go : (x : Result (List Event) Verdict) → canRaise k w ≡ x → isOk x ≡ true → x ≡ Ok (raising k w)
+    go (Ok fs) e t = ap Ok (sym (rising-ok k w fs e .0))
+    go (Err v) e t = let z : _≡_ {A = ℕ} 0 1 = cc in absurd (omega arith)
+
 pub halted-first : (k : ℕ) (w : World) (v : Verdict) → Due (canRaise k w) v → Halted k w w v
 halted-first k w (Number n) d = (d, refl)
 halted-first k w Bad d = (d, refl)
-halted-first k w Memory d = (0, refl)
+halted-first k w Memory d = (there-are k w d, (0, refl))
 
 -- want of memory on the way
 pub halted-later : (k : ℕ) (w v : World) (e : Verdict) (es fs : List Event) (i : ℕ) → canRaise k w ≡ Ok fs → es ≡ fs → e ≡ Memory → v ≡ plays w (take i es) → Halted k w v e
-halted-later k w v e es fs i r s m p = subst (Halted k w v) (sym m) (i, p ∙ ap (λ (x : List Event). plays w (take i x)) s ∙ ap (λ (x : Result (List Event) Verdict). plays w (take i (eventsOf x))) (sym r))
+halted-later k w v e es fs i r s m p =
+    let all : fs ≡ raising k w = sym (rising-ok k w fs r .0) in
+    subst (Halted k w v) (sym m) (r ∙ ap Ok all, (i, p ∙ ap (λ (x : List Event). plays w (take i x)) (s ∙ all)))

@@ -2,7 +2,7 @@
 -- Assumes nothing.
 use Prim.Native.Nat.{ℕ}
 use mathlib.Core.Path.{_≡_}
-use mathlib.Core.List.{List, []}
+use mathlib.Core.List.{List}
 use lib.ListN.{take}
 use Rattle.std.specs.declared.result.Result.{Result}
 use Rattle.std.specs.declared.result.Result.the-variants.{Ok, Err}
@@ -28,16 +28,11 @@ abbrev pub Planned : {V : Type 0} → (V → List Event) → ℕ → World → R
 Planned items k w (Ok v) = canRaise k w ≡ Ok (items v)
 Planned items k w (Err e) = Due (canRaise k w) (verdict e)
 
--- the events that there are
-abbrev pub eventsOf : Result (List Event) Verdict → List Event
-eventsOf (Ok fs) = fs
-eventsOf (Err v) = []
-
--- a refusal changes nothing; want of memory leaves what some of the first events have made
+-- a refusal changes nothing; want of memory comes only where there are events, and leaves what some of the first have made
 abbrev pub Halted : ℕ → World → World → Verdict → Type 0
 Halted k w v (Number n) = (canRaise k w ≡ Err (Number n)) × (v ≡ w)
 Halted k w v Bad = (canRaise k w ≡ Err Bad) × (v ≡ w)
-Halted k w v Memory = (i : ℕ) × (v ≡ plays w (take i (eventsOf (canRaise k w))))
+Halted k w v Memory = (canRaise k w ≡ Ok (raising k w)) × ((i : ℕ) × (v ≡ plays w (take i (raising k w))))
 
 -- a call that plays events on w, and leaves v: all of them, or some of the first for want of memory
 abbrev pub PlaysAll : List Event → World → World → Result (Unit {0}) Refusal → Type 0
