@@ -279,8 +279,7 @@ impl Fleet {
             return Err(Refusal::Invalid);
         }
         let most = at.vessel.standing.keep_form(sent.spoken.form());
-        self.logs[at.place].take(sent.from, sent.number, sent.spoken, most)?;
-        Ok(())
+        self.logs[at.place].take(sent.from, sent.number, sent.spoken, most)
     }
 
     // A word comes to the boat that it is for. One that its program does not read is turned away.
