@@ -1,3 +1,5 @@
 pub mod Worlds
 pub mod Abstract
 pub mod Promises
+pub mod Rising
+pub mod Calls
