@@ -75,8 +75,8 @@ spoke-logged w b i l e h k = record { meant = k .meant; numbered = k .numbered; 
         let same : b ≡ j = omega arith in
         let new : Below (boatOf w j .standing .level) (l .slots) = subst (λ (n : ℕ). Below (boatOf w n .standing .level) (l .slots)) same h in
         subst (λ (n : ℕ). Below (boatOf w j .standing .level) (getD (set (w .logs) i l) n empty .slots)) (sym s) (elim (cases-lt i (length (w .logs))) [
-          inl m ↦ subst (λ (x : Log). Below (boatOf w j .standing .level) (x .slots)) (sym (getD-set-same (w .logs) i l empty m)) new
-        | inr m ↦ subst (λ (ls : List Log). Below (boatOf w j .standing .level) (getD ls i empty .slots)) (sym (set-past (w .logs) i l m)) (subst (λ (n : ℕ). Below (boatOf w j .standing .level) (logAt w n .slots)) s old)
+          | inl m ↦ subst (λ (x : Log). Below (boatOf w j .standing .level) (x .slots)) (sym (getD-set-same (w .logs) i l empty m)) new
+          | inr m ↦ subst (λ (ls : List Log). Below (boatOf w j .standing .level) (getD ls i empty .slots)) (sym (set-past (w .logs) i l m)) (subst (λ (n : ℕ). Below (boatOf w j .standing .level) (logAt w n .slots)) s old)
         ])
 
     go : (j : ℕ) (o : Option ℕ) → placeOf w j ≡ o → Below (boatOf w j .standing .level) (logOf w j .slots) → Below (boatOf w j .standing .level) (logOf (logged w i l) j .slots)

@@ -1,5 +1,7 @@
 pub mod Worlds
+pub mod Rehearsals
 pub mod Abstract
 pub mod Promises
 pub mod Rising
 pub mod Calls
+pub mod Cases

@@ -38,7 +38,11 @@ pub enum Event {
         level: Level,
     },
     // a boat says a word to another; the word was given to it in some form
-    Say { from: BoatId, to: BoatId, word: Spoken },
+    Say {
+        from: BoatId,
+        to: BoatId,
+        word: Spoken,
+    },
     // a word that was sent comes to the boat that it is for
     BringWord {
         number: usize,

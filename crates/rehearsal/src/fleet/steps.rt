@@ -95,7 +95,10 @@ impl Fleet {
         ensures { λ r. ⌜ Tries (Ok (spec.opening (world (now (self .entry))) place (boat .0) (state vessel))) r (world (now (self .entry))) (world (now (self .exit))) ⌝ }
     {
         if vessel.standing.floor.0 > 1 {
-            self.tell(Notice::Promised { from: boat, floor: vessel.standing.floor })?;
+            self.tell(Notice::Promised {
+                from: boat,
+                floor: vessel.standing.floor,
+            })?;
         }
         self.moor(place, vessel);
         self.forget(place);
@@ -109,7 +112,15 @@ impl Fleet {
             return Err(Refusal::Invalid);
         };
         let standing = at.vessel.standing.renewed(to)?;
-        self.open(at.place, boat, Vessel { standing, answered: false, used: at.vessel.used })?;
+        self.open(
+            at.place,
+            boat,
+            Vessel {
+                standing,
+                answered: false,
+                used: at.vessel.used,
+            },
+        )?;
         Ok(())
     }
 
@@ -120,7 +131,15 @@ impl Fleet {
             return Err(Refusal::Invalid);
         };
         let standing = at.vessel.standing.gone_back(to)?;
-        self.open(at.place, boat, Vessel { standing, answered: false, used: at.vessel.used })?;
+        self.open(
+            at.place,
+            boat,
+            Vessel {
+                standing,
+                answered: false,
+                used: at.vessel.used,
+            },
+        )?;
         Ok(())
     }
 
@@ -130,8 +149,20 @@ impl Fleet {
         let Some(at) = self.find(boat) else {
             return Err(Refusal::Invalid);
         };
-        let Vessel { standing, answered: _, used } = at.vessel;
-        self.open(at.place, boat, Vessel { standing, answered: false, used })?;
+        let Vessel {
+            standing,
+            answered: _,
+            used,
+        } = at.vessel;
+        self.open(
+            at.place,
+            boat,
+            Vessel {
+                standing,
+                answered: false,
+                used,
+            },
+        )?;
         Ok(())
     }
 
@@ -149,7 +180,14 @@ impl Fleet {
             from: boat,
             floor: before.program,
         })?;
-        self.moor(at.place, Vessel { standing, answered, used: at.vessel.used });
+        self.moor(
+            at.place,
+            Vessel {
+                standing,
+                answered,
+                used: at.vessel.used,
+            },
+        );
         Ok(())
     }
 
@@ -196,8 +234,22 @@ impl Fleet {
         let number = next as u32;
         let given = word.read();
         let spoken = given.put(at.vessel.standing.say_form(to));
-        self.words.push(Sent { from, to, number, given, spoken })?;
-        self.moor(at.place, Vessel { standing: at.vessel.standing, answered: at.vessel.answered, used: number });
+        self.words
+            .push(Sent {
+                from,
+                to,
+                number,
+                given,
+                spoken,
+            })?;
+        self.moor(
+            at.place,
+            Vessel {
+                standing: at.vessel.standing,
+                answered: at.vessel.answered,
+                used: number,
+            },
+        );
         Ok(())
     }
 
@@ -224,7 +276,14 @@ impl Fleet {
         };
         let standing = at.vessel.standing;
         let answered = at.vessel.answered || standing.floor <= floor;
-        self.moor(at.place, Vessel { standing, answered, used: at.vessel.used });
+        self.moor(
+            at.place,
+            Vessel {
+                standing,
+                answered,
+                used: at.vessel.used,
+            },
+        );
         Ok(())
     }
 
@@ -242,7 +301,11 @@ impl Fleet {
         })?;
         self.moor(
             at.place,
-            Vessel { standing, answered: at.vessel.answered, used: at.vessel.used },
+            Vessel {
+                standing,
+                answered: at.vessel.answered,
+                used: at.vessel.used,
+            },
         );
         Ok(())
     }
@@ -279,7 +342,8 @@ impl Fleet {
             return Err(Refusal::Invalid);
         }
         let most = at.vessel.standing.keep_form(sent.spoken.form());
-        self.logs[at.place].take(sent.from, sent.number, sent.spoken, most)
+        self.logs[at.place]
+            .take(sent.from, sent.number, sent.spoken, most)
     }
 
     // A word comes to the boat that it is for. One that its program does not read is turned away.

@@ -17,9 +17,10 @@ loop-holds c = (ap states (c .new-vessels .ensures .items), ap allLogs (c .new-l
 pub loop-again : need.loop-again
 loop-again c =
     let B : Boat → List BoatState = λ b. states (vec-items (c .loop .vessels)) ++ begun b 0 ∷ [] in
-    let L : Log → List Log = λ l. allLogs (vec-items (c .loop .logs)) ++ l ∷ [] in
-    (ap states (c .in-Continue-push .ensures tt .items) ∙ map-push state (vec-items (c .loop .vessels)) _ ∙ ap B (c .first .ensures) ∙ ap (λ l. l ++ fresh ∷ []) (c .loop .inv .0) ∙ replicate-more (c .loop .counter) fresh,
-    ap allLogs (c .in-Continue-push-2 .ensures tt .items) ∙ map-push log (vec-items (c .loop .logs)) _ ∙ ap L (c .new .ensures) ∙ ap (λ l. l ++ empty ∷ []) (c .loop .inv .1) ∙ replicate-more (c .loop .counter) empty)
+    let L : Log → List Log = λ l. allLogs (vec-items (c .loop .logs)) ++ l ∷ [] in (
+      ap states (c .in-Continue-push .ensures tt .items) ∙ map-push state (vec-items (c .loop .vessels)) _ ∙ ap B (c .first .ensures) ∙ ap (λ l. l ++ fresh ∷ []) (c .loop .inv .0) ∙ replicate-more (c .loop .counter) fresh,
+      ap allLogs (c .in-Continue-push-2 .ensures tt .items) ∙ map-push log (vec-items (c .loop .logs)) _ ∙ ap L (c .new .ensures) ∙ ap (λ l. l ++ empty ∷ []) (c .loop .inv .1) ∙ replicate-more (c .loop .counter) empty,
+    )
 
 pub returns : need.returns
 returns c =
