@@ -1,20 +1,17 @@
 // Plays a script.
+mod command;
 mod seed;
 mod steps;
 
+use std::io;
 use seed::Draws;
 use seed::Scene;
-use std::io;
 use steps::StepDisplay;
 
 fn main(rt: LibcRuntime) -> io::Result<()> {
     let mut d = Draws::new(7);
     for _ in 0..10 {
-        let step = d.step(Scene {
-            boats: 2,
-            words: 3,
-            notices: 4,
-        });
+        let step = d.step(Scene { boats: 2, words: 3, notices: 4 });
         println!(rt, "{step}")?;
     }
     Ok(())
