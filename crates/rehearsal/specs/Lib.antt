@@ -1,2 +1,4 @@
 pub mod Worlds
 pub mod Rehearsals
+pub mod Abstract
+pub mod Promises

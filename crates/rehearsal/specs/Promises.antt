@@ -1,0 +1,70 @@
+-- What is promised of the fleet after any events from the start.
+-- Assumes nothing.
+use Prim.Native.Nat.{ℕ, _≤_, _<_}
+use mathlib.Core.Path.{_≡_}
+use mathlib.Core.Bool.{Bool, true, false}
+use mathlib.Core.List.{List, [], _∷_, _++_, List·Memᴰ}
+use Rattle.std.specs.Options.{isSome}
+use Rattle.std.specs.declared.option.Option.the-variants.{Some, None}
+use Rattle.std.specs.declared.result.Result.{Result}
+use Rattle.std.specs.declared.result.Result.the-variants.{Ok, Err}
+use Rattle.levels.specs.Verdicts.{Verdict}
+use Rattle.levels.specs.Rules.{reads}
+use Rattle.levels.specs.Entries.{floorOf}
+use Rattle.rehearsal.specs.declared.messages.Word.{Word}
+use Rattle.rehearsal.specs.declared.messages.Notice.{Notice}
+use Rattle.rehearsal.specs.declared.messages.Notice.the-variants.{Promised, Heard, Allowed, Taken}
+use Rattle.rehearsal.specs.declared.events.Event.{Event}
+use Rattle.rehearsal.specs.declared.events.Event.the-variants.{GoBack}
+use Rattle.rehearsal.specs.Worlds.{World, start, play, tells, placeOf, opening, stateAt}
+use Rattle.rehearsal.specs.Abstract.{boatOf, heardOf}
+
+-- the world after an event: what is refused changes nothing
+abbrev pub after : World → Result World Verdict → World
+after w (Ok v) = v
+after w (Err e) = w
+
+abbrev pub plays : World → List Event → World
+plays w [] = w
+plays w (e ∷ es) = plays (after w (play w e)) es
+
+-- n boats, and any events
+abbrev pub run : ℕ → List Event → World
+run n es = plays (start n) es
+
+-- is a boat on the harbour's list
+abbrev pub Listed : World → ℕ → Type 0
+Listed w b = isSome (floorOf b (w .harbour .list)) ≡ true
+
+-- the fact that a notice states
+abbrev pub Holds : World → Notice → Type 0
+Holds w (Promised b f) = f .0 ≤ boatOf w (b .0) .standing .floor
+Holds w (Heard b f) = f .0 ≤ heardOf w (b .0)
+Holds w (Allowed b k) = k .0 ≤ w .harbour .said
+Holds w (Taken b k) = k .0 ≤ boatOf w (b .0) .standing .level
+
+pub record Promises (w : World) : Type 0 where
+  -- every word that was ever sent to a boat of the list is in a form that its program reads: whenever it comes, it is never turned away
+  pub readable : (x : Word) → List·Memᴰ x (w .words) → Listed w (x .to .0) → reads (boatOf w (x .to .0) .standing .program) (x .form .0) ≡ true
+  -- every word is in a form of at most the level of the boat that said it, and of at most the level said
+  pub spoken : (x : Word) → List·Memᴰ x (w .words) → (x .form .0 ≤ boatOf w (x .from .0) .standing .level) × (x .form .0 ≤ w .harbour .said)
+  -- nobody's level is above the level said, nor that above the floor of anybody on the list, nor a floor above its program
+  pub levels : (b : ℕ) → boatOf w b .standing .level ≤ w .harbour .said
+  pub floors : (b : ℕ) → Listed w b → w .harbour .said ≤ boatOf w b .standing .floor
+  pub programs : (b : ℕ) → boatOf w b .standing .floor ≤ boatOf w b .standing .program
+  -- every notice that was ever sent is true; so is what the harbour has heard
+  pub backed : (n : Notice) → List·Memᴰ n (w .notices) → Holds w n
+  pub heard : (b : ℕ) → heardOf w b ≤ boatOf w b .standing .floor
+  -- a boat that no longer tells its floor has it in the ledger
+  pub silent : (b : ℕ) → tells (boatOf w b) ≡ false → boatOf w b .standing .floor ≤ heardOf w b
+  -- going back to any older program from the floor up succeeds
+  pub back : (b i to : ℕ) → placeOf w b ≡ Some i → stateAt w i .standing .floor ≤ to → to < stateAt w i .standing .program → play w (GoBack (record { 0 = b }) (record { 0 = to })) ≡ Ok (opening w i b (record { program = to; floor = stateAt w i .standing .floor; level = stateAt w i .standing .level }))
+
+-- the one theorem: so it is after every list of events
+abbrev pub RunPromises : Type 0
+RunPromises = (n : ℕ) (es : List Event) → Promises (run n es)
+
+-- a world that events have made
+pub data Reach : World → Type 0 where
+  begin : (n : ℕ) → Reach (start n)
+  then : {w v : World} → Reach w → (e : Event) → play w e ≡ Ok v → Reach v
