@@ -95,4 +95,88 @@ impl<'a> Words<'a> {
         let n = self.number(0, 65535, "a boat is a number up to 65535")?;
         Ok(BoatId(n as u16))
     }
+
+    // The next word as a program.
+    fn program(&mut self) -> Result<Program, Reason> {
+        let n = self.number(1, 3, "a program is 1 to 3")?;
+        Ok(Program(n as u32))
+    }
+
+    // The next word as a level.
+    fn level(&mut self) -> Result<Level, Reason> {
+        let n = self.number(1, 4294967295, "a level is 1 to 4294967295")?;
+        Ok(Level(n as u32))
+    }
+
+    // The next word as a form.
+    fn form(&mut self) -> Result<FormNumber, Reason> {
+        let n = self.number(0, 255, "a form is 0 to 255")?;
+        Ok(FormNumber(n as u8))
+    }
+
+    // The next word as the name of a message.
+    fn message(&mut self) -> Result<Message, Reason> {
+        let word = self.next()?;
+        if let Some(digits) = word.strip_prefix('w') {
+            if let Some(n) = number(digits, 0, u64::MAX) {
+                return Ok(Message::Word(n));
+            }
+        }
+        if let Some(digits) = word.strip_prefix('n') {
+            if let Some(n) = number(digits, 0, u64::MAX) {
+                return Ok(Message::Notice(n));
+            }
+        }
+        Err("a message is w or n and a number")
+    }
+
+    // The rest of what a boat does.
+    fn boat_step(&mut self, word: &str) -> Result<Step, Reason> {
+        match word {
+            "renew" => Ok(Step::Renew { boat: self.boat()?, to: self.program()? }),
+            "back" => Ok(Step::Back { boat: self.boat()?, to: self.program()? }),
+            "promise" => Ok(Step::Promise { boat: self.boat()? }),
+            "tick" => Ok(Step::Tick { boat: self.boat()? }),
+            "cut" => Ok(Step::Cut { boat: self.boat()? }),
+            "say" => Ok(Step::Say { from: self.boat()?, to: self.boat()?, given: self.form()? }),
+            _ => Err("unknown command"),
+        }
+    }
+
+    // The rest of a step that begins with a word.
+    fn step(&mut self, word: &str) -> Result<Step, Reason> {
+        match word {
+            "level" => Ok(Step::Announce { level: self.level()? }),
+            "raise" => Ok(Step::Raise { level: self.level()? }),
+            "come" => Ok(Step::Come { message: self.message()? }),
+            "lose" => Ok(Step::Lose),
+            "late" => Ok(Step::Hold),
+            _ => self.boat_step(word),
+        }
+    }
+
+    // The rest of a command that begins with a word.
+    fn command(&mut self, word: &str) -> Result<Command, Reason> {
+        match word {
+            "boats" => Ok(Command::Boats(self.number(1, 8, "boats are 1 to 8")? as usize)),
+            "seed" => {
+                let seed = self.number(0, u64::MAX, "a seed is a number up to 18446744073709551615")?;
+                let count = self.number(0, MOST_DRAWN, "a seed draws 0 to 1000000 commands")?;
+                Ok(Command::Seed { seed, count })
+            }
+            "read" => Ok(Command::Read),
+            _ => Ok(Command::Play(self.step(word)?)),
+        }
+    }
+}
+
+// Reads a line: words with one space between two. The first fault from the left is the reason.
+pub fn parse(line: &str) -> Result<Command, Reason> {
+    let mut words = Words { rest: line };
+    let word = words.next()?;
+    let command = words.command(word)?;
+    if !words.rest.is_empty() {
+        return Err("too many words");
+    }
+    Ok(command)
 }
