@@ -1,5 +1,7 @@
 // Plays a script.
+mod answers;
 mod command;
+mod script;
 mod seed;
 mod steps;
 
