@@ -16,7 +16,7 @@ const MOST_DRAWN: u64 = 1_000_000;
 #[derive(Clone, Copy)]
 pub enum Command {
     // so many boats
-    Boats(usize),
+    Boats(u16),
     // so many steps, drawn from a seed
     Seed { seed: u64, count: u64 },
     // the table
@@ -118,16 +118,16 @@ impl<'a> Words<'a> {
     fn message(&mut self) -> Result<Message, Reason> {
         let word = self.next()?;
         if let Some(digits) = word.strip_prefix('w') {
-            if let Some(n) = number(digits, 0, u64::MAX) {
+            if let Some(n) = number(digits, 1, u64::MAX) {
                 return Ok(Message::Word(n));
             }
         }
         if let Some(digits) = word.strip_prefix('n') {
-            if let Some(n) = number(digits, 0, u64::MAX) {
+            if let Some(n) = number(digits, 1, u64::MAX) {
                 return Ok(Message::Notice(n));
             }
         }
-        Err("a message is w or n and a number")
+        Err("a message is w or n and a number from 1")
     }
 
     // The rest of what a boat does.
@@ -158,7 +158,7 @@ impl<'a> Words<'a> {
     // The rest of a command that begins with a word.
     fn command(&mut self, word: &str) -> Result<Command, Reason> {
         match word {
-            "boats" => Ok(Command::Boats(self.number(1, 8, "boats are 1 to 8")? as usize)),
+            "boats" => Ok(Command::Boats(self.number(1, 8, "boats are 1 to 8")? as u16)),
             "seed" => {
                 let seed = self.number(0, u64::MAX, "a seed is a number up to 18446744073709551615")?;
                 let count = self.number(0, MOST_DRAWN, "a seed draws 0 to 1000000 commands")?;

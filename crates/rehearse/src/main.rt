@@ -1,6 +1,7 @@
 // Plays a script.
 mod answers;
 mod command;
+mod player;
 mod script;
 mod seed;
 mod steps;

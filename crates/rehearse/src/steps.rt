@@ -3,6 +3,7 @@ use levels::numbers::BoatId;
 use levels::numbers::FormNumber;
 use levels::numbers::Level;
 use levels::numbers::Program;
+use rehearsal::events::Event;
 use std::fmt;
 
 // A message by its name in the script: words and notices are numbered apart, from 1, in the order in which they were sent.
@@ -10,6 +11,16 @@ use std::fmt;
 pub enum Message {
     Word(u64),
     Notice(u64),
+}
+
+impl Message {
+    // Its coming to the station that it is for.
+    pub fn coming(self) -> Event {
+        match self {
+            Message::Word(n) => Event::BringWord { number: n.saturating_sub(1) as usize },
+            Message::Notice(n) => Event::BringNotice { number: n.saturating_sub(1) as usize },
+        }
+    }
 }
 
 pub impl fmt::Display for Message as MessageDisplay {
