@@ -6,6 +6,11 @@ use levels::numbers::Program;
 use rehearsal::messages::Notice;
 use rehearsal::messages::Word;
 use std::fmt;
+use std::io::BufWriter;
+use std::io::Stdout;
+
+// Where all is printed.
+pub type Output = BufWriter<Stdout>;
 
 // Why something was not done.
 #[derive(Clone, Copy)]

@@ -1,24 +1,27 @@
 // A rehearsal with what becomes of its messages.
 ghost use Prim.Native.Nat.{_≤_};
 use crate::answers::Answer;
+use crate::answers::Output;
 use crate::answers::Reason;
-use crate::answers::Text;
 use crate::seed::Draws;
 use crate::seed::Scene;
 use crate::steps::Message;
 use crate::steps::Step;
 use levels::numbers::BoatId;
+use levels::numbers::Level;
 use levels::refusals::Refusal;
 use levels::standing::Standing;
 use rehearsal::events::Event;
 use rehearsal::rehearsal::Rehearsal;
-use std::alloc::AllocError;
 use std::alloc::Global;
 use std::collections::VecDeque;
 use std::io;
-use std::io::BufWriter;
-use std::io::Stdout;
 use std::io::Write;
+use crate::answers::AnswerDisplay;
+use crate::steps::StepDisplay;
+
+mod deliveries;
+mod reasons;
 
 // What becomes of a message when it is sent.
 #[derive(Clone, Copy)]
@@ -62,26 +65,90 @@ impl Player {
         Some(vessel.standing)
     }
 
-    // Why an event that was refused as senseless makes no sense.
-    fn sense(&self, event: Event) -> Reason {
-        match event {
-            Event::Enlist { boat } => Reason::NoBoat(boat),
-            Event::Restart { boat } => Reason::NoBoat(boat),
-            Event::Promise { boat } => Reason::NoBoat(boat),
-            Event::Tick { boat } => Reason::NoBoat(boat),
-            Event::Renew { boat, to: _ } => self.unless_there(boat, Reason::Text("an older program")),
-            Event::GoBack { boat, to: _ } => self.unless_there(boat, Reason::Text("not an older program")),
-            Event::Say { from, to, given: _ } => {
-                self.unless_there(from, self.unless_there(to, Reason::Text("a word to itself")))
-            }
-            Event::Announce { level: _ } => Reason::Text("no level"),
-            Event::BringWord { number: _ } => Reason::Text("never sent"),
-            Event::BringNotice { number: _ } => Reason::Text("never sent"),
+    // Plays an event.
+    fn play(&mut self, event: Event) -> Answer {
+        match self.rehearsal.play(event) {
+            Ok(()) => Answer::Done,
+            Err(refusal) => self.refused(event, refusal),
         }
     }
 
-    // That there is no such boat, or where there is one, another reason.
-    fn unless_there(&self, boat: BoatId, other: Reason) -> Reason {
-        if self.standing(boat).is_none() { Reason::NoBoat(boat) } else { other }
+    // What became of a message when it was sent, if it was.
+    fn fate(&self, message: Message) -> Option<Fate> {
+        let fate = match message {
+            Message::Word(n) => self.words.get((n as usize).checked_sub(1)?),
+            Message::Notice(n) => self.notices.get((n as usize).checked_sub(1)?),
+        };
+        fate.copied()
+    }
+
+    // A message comes late, or once more.
+    fn come(&mut self, message: Message) -> Answer {
+        match self.fate(message) {
+            None => Answer::Bad(Reason::Text("never sent")),
+            Some(Fate::Lost) => Answer::Bad(Reason::Text("lost")),
+            Some(_) => self.play(message.coming()),
+        }
+    }
+
+    // The fleet is brought to a level.
+    fn raise(&mut self, _level: Level) -> Answer {
+        Answer::Bad(Reason::Text("raise is not there yet"))
+    }
+
+    // A fate more waits for the messages to be sent.
+    fn expect(&mut self, fate: Fate) -> io::Result<Answer> {
+        self.ahead.push_back(fate)?;
+        Ok(Answer::Done)
+    }
+
+    // Does what a step asks for, and answers.
+    fn act(&mut self, step: Step) -> io::Result<Answer> {
+        let event = match step {
+            Step::Renew { boat, to } => Event::Renew { boat, to },
+            Step::Back { boat, to } => Event::GoBack { boat, to },
+            Step::Promise { boat } => Event::Promise { boat },
+            Step::Tick { boat } => Event::Tick { boat },
+            Step::Announce { level } => Event::Announce { level },
+            Step::Cut { boat } => Event::Restart { boat },
+            Step::Say { from, to, given } => Event::Say { from, to, given },
+            Step::Lose => return self.expect(Fate::Lost),
+            Step::Hold => return self.expect(Fate::Late),
+            Step::Come { message } => return Ok(self.come(message)),
+            Step::Raise { level } => return Ok(self.raise(level)),
+        };
+        Ok(self.play(event))
+    }
+
+    // Plays a step, and prints its answer and the messages that it sends.
+    pub fn step(&mut self, step: Step, echo: &str, out: &mut Output) -> io::Result<()> {
+        let answer = self.act(step)?;
+        writeln!(out, "{echo}: {answer}")?;
+        if let Step::Raise { level: _ } = step {
+            return self.show_brought(out);
+        }
+        self.settle(out)
+    }
+
+    // What a drawn step may speak of. There is always a boat.
+    fn scene(&self) -> Scene
+        ensures { λ r. ⌜ 1 ≤ r .boats ⌝ }
+    {
+        Scene {
+            boats: self.rehearsal.boats().len().clamp(1, 8) as u16,
+            words: self.rehearsal.words().len() as u64,
+            notices: self.rehearsal.notices().len() as u64,
+        }
+    }
+
+    // Plays so many steps, drawn from a seed.
+    pub fn draw(&mut self, heap: Global, seed: u64, count: u64, out: &mut Output) -> io::Result<()> {
+        let mut draws = Draws::new(seed);
+        for _ in 0..count {
+            let step = draws.step(self.scene());
+            let echo = format!(heap, "{step}")?;
+            self.step(step, echo.as_str(), out)?;
+        }
+        Ok(())
     }
 }
