@@ -77,23 +77,60 @@ pub struct Text {
 impl Text {
     // What a word says, as far as it is played: its form.
     pub fn of_word(word: Word) -> Text {
-        Text { fact: "form", number: word.form.0 as u32, from: word.from.0, to: word.to.0 }
+        Text {
+            fact: "form",
+            number: word.form.0 as u32,
+            from: word.from.0,
+            to: word.to.0,
+        }
     }
 
     // What a notice says.
     pub fn of_notice(notice: Notice) -> Text {
         match notice {
-            Notice::Promised { from: BoatId(from), floor: Program(number) } => {
-                Text { fact: "promised", number, from, to: 0 }
+            Notice::Promised {
+                from: BoatId(from),
+                floor: Program(number),
+            } => {
+                Text {
+                    fact: "promised",
+                    number,
+                    from,
+                    to: 0,
+                }
             }
-            Notice::Heard { to: BoatId(to), floor: Program(number) } => {
-                Text { fact: "heard", number, from: 0, to }
+            Notice::Heard {
+                to: BoatId(to),
+                floor: Program(number),
+            } => {
+                Text {
+                    fact: "heard",
+                    number,
+                    from: 0,
+                    to,
+                }
             }
-            Notice::Allowed { to: BoatId(to), level: Level(number) } => {
-                Text { fact: "level", number, from: 0, to }
+            Notice::Allowed {
+                to: BoatId(to),
+                level: Level(number),
+            } => {
+                Text {
+                    fact: "level",
+                    number,
+                    from: 0,
+                    to,
+                }
             }
-            Notice::Taken { from: BoatId(from), level: Level(number) } => {
-                Text { fact: "has it", number, from, to: 0 }
+            Notice::Taken {
+                from: BoatId(from),
+                level: Level(number),
+            } => {
+                Text {
+                    fact: "has it",
+                    number,
+                    from,
+                    to: 0,
+                }
             }
         }
     }
@@ -101,7 +138,12 @@ impl Text {
 
 pub impl fmt::Display for Text as TextDisplay {
     fn fmt<W: fmt::Write>(&self, f: &mut fmt::Formatter<W>) -> fmt::Result {
-        let Text { fact, number, from, to } = self;
+        let Text {
+            fact,
+            number,
+            from,
+            to,
+        } = self;
         write!(f, "{fact} {number} from {from} to {to}")
     }
 }

@@ -133,12 +133,22 @@ impl<'a> Words<'a> {
     // The rest of what a boat does.
     fn boat_step(&mut self, word: &str) -> Result<Step, Reason> {
         match word {
-            "renew" => Ok(Step::Renew { boat: self.boat()?, to: self.program()? }),
-            "back" => Ok(Step::Back { boat: self.boat()?, to: self.program()? }),
+            "renew" => Ok(Step::Renew {
+                boat: self.boat()?,
+                to: self.program()?,
+            }),
+            "back" => Ok(Step::Back {
+                boat: self.boat()?,
+                to: self.program()?,
+            }),
             "promise" => Ok(Step::Promise { boat: self.boat()? }),
             "tick" => Ok(Step::Tick { boat: self.boat()? }),
             "cut" => Ok(Step::Cut { boat: self.boat()? }),
-            "say" => Ok(Step::Say { from: self.boat()?, to: self.boat()?, given: self.form()? }),
+            "say" => Ok(Step::Say {
+                from: self.boat()?,
+                to: self.boat()?,
+                given: self.form()?,
+            }),
             _ => Err("unknown command"),
         }
     }
@@ -146,9 +156,15 @@ impl<'a> Words<'a> {
     // The rest of a step that begins with a word.
     fn step(&mut self, word: &str) -> Result<Step, Reason> {
         match word {
-            "level" => Ok(Step::Announce { level: self.level()? }),
-            "raise" => Ok(Step::Raise { level: self.level()? }),
-            "come" => Ok(Step::Come { message: self.message()? }),
+            "level" => Ok(Step::Announce {
+                level: self.level()?,
+            }),
+            "raise" => Ok(Step::Raise {
+                level: self.level()?,
+            }),
+            "come" => Ok(Step::Come {
+                message: self.message()?,
+            }),
             "lose" => Ok(Step::Lose),
             "late" => Ok(Step::Hold),
             _ => self.boat_step(word),
@@ -160,7 +176,11 @@ impl<'a> Words<'a> {
         match word {
             "boats" => Ok(Command::Boats(self.number(1, 8, "boats are 1 to 8")? as u16)),
             "seed" => {
-                let seed = self.number(0, u64::MAX, "a seed is a number up to 18446744073709551615")?;
+                let seed = self.number(
+                    0,
+                    u64::MAX,
+                    "a seed is a number up to 18446744073709551615",
+                )?;
                 let count = self.number(0, MOST_DRAWN, "a seed draws 0 to 1000000 commands")?;
                 Ok(Command::Seed { seed, count })
             }

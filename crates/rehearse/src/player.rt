@@ -1,12 +1,14 @@
 // A rehearsal with what becomes of its messages.
 ghost use Prim.Native.Nat.{_≤_};
 use crate::answers::Answer;
+use crate::answers::AnswerDisplay;
 use crate::answers::Output;
 use crate::answers::Reason;
 use crate::seed::Draws;
 use crate::seed::Scene;
 use crate::steps::Message;
 use crate::steps::Step;
+use crate::steps::StepDisplay;
 use levels::numbers::BoatId;
 use levels::numbers::Level;
 use levels::refusals::Refusal;
@@ -17,8 +19,6 @@ use std::alloc::Global;
 use std::collections::VecDeque;
 use std::io;
 use std::io::Write;
-use crate::answers::AnswerDisplay;
-use crate::steps::StepDisplay;
 
 mod deliveries;
 mod reasons;
@@ -48,9 +48,16 @@ impl Player {
     pub fn new(heap: Global, boats: u16) -> Result<Player, Refusal> {
         let mut rehearsal = Rehearsal::new(heap, boats as usize)?;
         for i in 0..boats {
-            rehearsal.play(Event::Enlist { boat: BoatId(i + 1) })?;
+            rehearsal.play(Event::Enlist {
+                boat: BoatId(i + 1),
+            })?;
         }
-        Ok(Player { rehearsal, ahead: VecDeque::new(heap), words: Vec::new(heap), notices: Vec::new(heap) })
+        Ok(Player {
+            rehearsal,
+            ahead: VecDeque::new(heap),
+            words: Vec::new(heap),
+            notices: Vec::new(heap),
+        })
     }
 
     // The rehearsal as it stands.
@@ -142,7 +149,13 @@ impl Player {
     }
 
     // Plays so many steps, drawn from a seed.
-    pub fn draw(&mut self, heap: Global, seed: u64, count: u64, out: &mut Output) -> io::Result<()> {
+    pub fn draw(
+        &mut self,
+        heap: Global,
+        seed: u64,
+        count: u64,
+        out: &mut Output,
+    ) -> io::Result<()> {
         let mut draws = Draws::new(seed);
         for _ in 0..count {
             let step = draws.step(self.scene());

@@ -47,7 +47,10 @@ fn before_end(bytes: &[u8]) -> usize
 impl Line {
     // An empty line.
     fn new(heap: Global) -> Line {
-        Line { bytes: Vec::new(heap), long: false }
+        Line {
+            bytes: Vec::new(heap),
+            long: false,
+        }
     }
 
     // Keeps more bytes, as far as there is room.
@@ -86,7 +89,11 @@ impl Line {
 
 // A byte as it is printed.
 fn printable(byte: u8) -> char {
-    if byte >= b' ' && byte <= b'~' { char::from(byte) } else { '?' }
+    if byte >= b' ' && byte <= b'~' {
+        char::from(byte)
+    } else {
+        '?'
+    }
 }
 
 // The first part of a text, for an answer.
@@ -107,7 +114,11 @@ fn take_part(input: &mut BufReader<Stdin>, line: &mut Line) -> io::Result<Part> 
     let held = match input.fill_buf() {
         Ok(held) => held,
         Err(e) => {
-            return if e.kind() == ErrorKind::Interrupted { Ok(Part::Open) } else { Err(e) };
+            return if e.kind() == ErrorKind::Interrupted {
+                Ok(Part::Open)
+            } else {
+                Err(e)
+            };
         }
     };
     let count = held.len();

@@ -17,8 +17,12 @@ impl Message {
     // Its coming to the station that it is for.
     pub fn coming(self) -> Event {
         match self {
-            Message::Word(n) => Event::BringWord { number: n.saturating_sub(1) as usize },
-            Message::Notice(n) => Event::BringNotice { number: n.saturating_sub(1) as usize },
+            Message::Word(n) => Event::BringWord {
+                number: n.saturating_sub(1) as usize,
+            },
+            Message::Notice(n) => Event::BringNotice {
+                number: n.saturating_sub(1) as usize,
+            },
         }
     }
 }

@@ -2,25 +2,31 @@
 use super::Fate;
 use super::Player;
 use crate::answers::Answer;
+use crate::answers::AnswerDisplay;
 use crate::answers::Output;
 use crate::answers::Text;
+use crate::answers::TextDisplay;
 use crate::steps::Message;
+use crate::steps::MessageDisplay;
 use std::io;
 use std::io::Write;
-use crate::answers::AnswerDisplay;
-use crate::answers::TextDisplay;
-use crate::steps::MessageDisplay;
 
 impl Player {
     // The first message that has no fate yet, and what it says. No step sends both words and notices.
     fn next_sent(&self) -> Option<(Message, Text)> {
         let words = self.words.len();
         if let Some(word) = self.rehearsal.words().get(words) {
-            return Some((Message::Word((words as u64).saturating_add(1)), Text::of_word(*word)));
+            return Some((
+                Message::Word((words as u64).saturating_add(1)),
+                Text::of_word(*word),
+            ));
         }
         let notices = self.notices.len();
         if let Some(notice) = self.rehearsal.notices().get(notices) {
-            return Some((Message::Notice((notices as u64).saturating_add(1)), Text::of_notice(*notice)));
+            return Some((
+                Message::Notice((notices as u64).saturating_add(1)),
+                Text::of_notice(*notice),
+            ));
         }
         None
     }

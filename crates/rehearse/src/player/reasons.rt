@@ -4,8 +4,8 @@ use crate::answers::Answer;
 use crate::answers::Reason;
 use levels::numbers::BoatId;
 use levels::refusals::Refusal;
-use rehearsal::events::Event;
 use levels::refusals::RefusalPartialEq;
+use rehearsal::events::Event;
 
 impl Player {
     // Why an event that was refused as senseless makes no sense.
@@ -15,10 +15,19 @@ impl Player {
             Event::Restart { boat } => Reason::NoBoat(boat),
             Event::Promise { boat } => Reason::NoBoat(boat),
             Event::Tick { boat } => Reason::NoBoat(boat),
-            Event::Renew { boat, to: _ } => self.unless_there(boat, Reason::Text("an older program")),
-            Event::GoBack { boat, to: _ } => self.unless_there(boat, Reason::Text("not an older program")),
+            Event::Renew { boat, to: _ } => self.unless_there(
+                boat,
+                Reason::Text("an older program"),
+            ),
+            Event::GoBack { boat, to: _ } => self.unless_there(
+                boat,
+                Reason::Text("not an older program"),
+            ),
             Event::Say { from, to, given: _ } => {
-                self.unless_there(from, self.unless_there(to, Reason::Text("a word to itself")))
+                self.unless_there(
+                    from,
+                    self.unless_there(to, Reason::Text("a word to itself")),
+                )
             }
             Event::Announce { level: _ } => Reason::Text("no level"),
             Event::BringWord { number: _ } => Reason::Text("never sent"),
@@ -28,7 +37,11 @@ impl Player {
 
     // That there is no such boat, or where there is one, another reason.
     fn unless_there(&self, boat: BoatId, other: Reason) -> Reason {
-        if self.standing(boat).is_none() { Reason::NoBoat(boat) } else { other }
+        if self.standing(boat).is_none() {
+            Reason::NoBoat(boat)
+        } else {
+            other
+        }
     }
 
     // Below which floor an event would go.

@@ -1,0 +1,101 @@
+// Plays one line of the script after another.
+use crate::answers::Answer;
+use crate::answers::AnswerDisplay;
+use crate::answers::Output;
+use crate::answers::Reason;
+use crate::command::Command;
+use crate::command::parse;
+use crate::player::Player;
+use crate::script::Line;
+use crate::script::shortened;
+use crate::table;
+use std::alloc::Global;
+use std::io;
+use std::io::BufWriter;
+use std::io::Stdout;
+use std::io::Write;
+
+// The player, once there are boats, and where all is printed.
+#[derive(Drop)]
+pub struct Stage {
+    heap: Global,
+    player: Option<Player>,
+    out: Output,
+}
+
+impl Stage {
+    // A stage with no boats yet.
+    pub fn new(heap: Global, out: Stdout) -> Stage {
+        Stage {
+            heap,
+            player: None,
+            out: BufWriter::new(out),
+        }
+    }
+
+    // Answers what cannot be played.
+    fn bad(&mut self, echo: &str, reason: &'static str) -> io::Result<()> {
+        let answer = Answer::Bad(Reason::Text(reason));
+        writeln!(self.out, "{echo}: {answer}")
+    }
+
+    // Makes the boats, unless they are there.
+    fn begin(&mut self, boats: u16, echo: &str) -> io::Result<()> {
+        if self.player.is_some() {
+            return self.bad(echo, "the boats are there already");
+        }
+        let answer = match Player::new(self.heap, boats) {
+            Ok(player) => {
+                self.player = Some(player);
+                Answer::Done
+            }
+            Err(_) => Answer::NoMemory,
+        };
+        writeln!(self.out, "{echo}: {answer}")
+    }
+
+    // Plays a command.
+    fn play(&mut self, command: Command, echo: &str) -> io::Result<()> {
+        if let Command::Boats(boats) = command {
+            return self.begin(boats, echo);
+        }
+        let Some(player) = &mut self.player else {
+            return self.bad(echo, "no boats yet");
+        };
+        if let Command::Play(step) = command {
+            return player.step(step, echo, &mut self.out);
+        }
+        let answer = Answer::Done;
+        writeln!(self.out, "{echo}: {answer}")?;
+        match command {
+            Command::Seed { seed, count } => player.draw(self.heap, seed, count, &mut self.out),
+            _ => table::print(self.heap, player.rehearsal(), &mut self.out),
+        }
+    }
+
+    // Plays a line. One with no words, and one that begins with `#`, is passed over.
+    pub fn line(&mut self, line: &Line) -> io::Result<()> {
+        let text = line.plain(self.heap)?;
+        if text.as_str().starts_with('#') {
+            return Ok(());
+        }
+        let echo = shortened(self.heap, text.as_str())?;
+        if line.is_long() {
+            self.bad(echo.as_str(), "line too long")?;
+        } else if !text.is_empty() {
+            match parse(text.as_str()) {
+                Ok(command) => self.play(command, echo.as_str())?,
+                Err(reason) => self.bad(echo.as_str(), reason)?,
+            }
+        }
+        self.out.flush()
+    }
+
+    // Prints the table at the end, if there are boats.
+    pub fn end(&mut self) -> io::Result<()> {
+        if let Some(player) = &self.player {
+            table::print(self.heap, player.rehearsal(), &mut self.out)?;
+        }
+        self.out.flush()
+    }
+}
