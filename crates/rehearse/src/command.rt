@@ -97,13 +97,17 @@ impl<'a> Words<'a> {
     }
 
     // The next word as a program.
-    fn program(&mut self) -> Result<Program, Reason> {
+    fn program(&mut self) -> Result<Program, Reason>
+        ensures { λ r. ⌜ Cases r (λ p. (1 ≤ p .0) × (p .0 ≤ 3)) (λ _. Unit {0}) ⌝ }
+    {
         let n = self.number(1, 3, "a program is 1 to 3")?;
         Ok(Program(n as u32))
     }
 
     // The next word as a level.
-    fn level(&mut self) -> Result<Level, Reason> {
+    fn level(&mut self) -> Result<Level, Reason>
+        ensures { λ r. ⌜ Cases r (λ k. 1 ≤ k .0) (λ _. Unit {0}) ⌝ }
+    {
         let n = self.number(1, 4294967295, "a level is 1 to 4294967295")?;
         Ok(Level(n as u32))
     }

@@ -1,6 +1,7 @@
 // The script on standard input, a line at a time, as bytes.
 ghost use Prim.Native.Nat.{_≤_};
 ghost use lib.ListN.{length};
+ghost use Rattle.std.specs.Of.Vec.{vec-len};
 use std::alloc::AllocError;
 use std::alloc::Global;
 use std::io;
@@ -20,6 +21,7 @@ const MOST_SHOWN: usize = 60;
 pub struct Line {
     bytes: Vec<u8>,
     long: bool,
+    ghost kept: { vec-len bytes ≤ 4096 },
 }
 
 // How far a line has come.

@@ -8,12 +8,16 @@ use crate::command::parse;
 use crate::player::Player;
 use crate::script::Line;
 use crate::script::shortened;
+use crate::steps::Step;
 use crate::table;
 use std::alloc::Global;
 use std::io;
 use std::io::BufWriter;
 use std::io::Stdout;
 use std::io::Write;
+
+// The reason where a command wants boats.
+const NO_BOATS: &str = "no boats yet";
 
 // The player, once there are boats, and where all is printed.
 #[derive(Drop)]
@@ -54,22 +58,39 @@ impl Stage {
         writeln!(self.out, "{echo}: {answer}")
     }
 
+    // Plays a step.
+    fn step(&mut self, step: Step, echo: &str) -> io::Result<()> {
+        let Some(player) = &mut self.player else {
+            return self.bad(echo, NO_BOATS);
+        };
+        player.step(step, echo, &mut self.out)
+    }
+
+    // Plays so many steps, drawn from a seed.
+    fn draw(&mut self, seed: u64, count: u64, echo: &str) -> io::Result<()> {
+        let Some(player) = &mut self.player else {
+            return self.bad(echo, NO_BOATS);
+        };
+        writeln!(self.out, "{echo}: ok")?;
+        player.draw(self.heap, seed, count, &mut self.out)
+    }
+
+    // Prints the table.
+    fn read(&mut self, echo: &str) -> io::Result<()> {
+        let Some(player) = &self.player else {
+            return self.bad(echo, NO_BOATS);
+        };
+        writeln!(self.out, "{echo}: ok")?;
+        table::print(self.heap, player.rehearsal(), &mut self.out)
+    }
+
     // Plays a command.
     fn play(&mut self, command: Command, echo: &str) -> io::Result<()> {
-        if let Command::Boats(boats) = command {
-            return self.begin(boats, echo);
-        }
-        let Some(player) = &mut self.player else {
-            return self.bad(echo, "no boats yet");
-        };
-        if let Command::Play(step) = command {
-            return player.step(step, echo, &mut self.out);
-        }
-        let answer = Answer::Done;
-        writeln!(self.out, "{echo}: {answer}")?;
         match command {
-            Command::Seed { seed, count } => player.draw(self.heap, seed, count, &mut self.out),
-            _ => table::print(self.heap, player.rehearsal(), &mut self.out),
+            Command::Boats(boats) => self.begin(boats, echo),
+            Command::Seed { seed, count } => self.draw(seed, count, echo),
+            Command::Read => self.read(echo),
+            Command::Play(step) => self.step(step, echo),
         }
     }
 

@@ -70,8 +70,7 @@ impl Player {
                 break;
             };
             self.note(message, Fate::Comes)?;
-            let answer = Answer::Done;
-            writeln!(out, "  {message} {text}: {answer}")?;
+            writeln!(out, "  {message} {text}: ok")?;
         }
         Ok(())
     }
