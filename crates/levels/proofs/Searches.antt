@@ -116,8 +116,9 @@ ascending-entered b (e ∷ es) n a =
     let p : (above (e .boat .0) es ≡ true) × (ascending es ≡ true) = and-parts (above (e .boat .0) es) (ascending es) a in
     let d : eqb (e .boat .0) b ≡ false = apart (eqb (e .boat .0) b) (e .floor .0) (floorOf b es) n in
     elim (cases (ltb (e .boat .0) b)) [
-      inl t ↦ ap ascending (cond-true _ _ _ t) ∙ and-from _ _ (above-entered (e .boat .0) b es (grind (arith, tells)) (p .0)) (ascending-entered b es (sym (cond-false _ _ _ d) ∙ n) (p .1))
-    | inr t ↦ ap ascending (cond-false _ _ _ t) ∙ and-from _ _ (let l : ltb b (e .boat .0) ≡ true = grind (arith, tells) in l) a ]
+      | inl t ↦ ap ascending (cond-true _ _ _ t) ∙ and-from _ _ (above-entered (e .boat .0) b es (grind (arith, tells)) (p .0)) (ascending-entered b es (sym (cond-false _ _ _ d) ∙ n) (p .1))
+      | inr t ↦ ap ascending (cond-false _ _ _ t) ∙ and-from _ _ (let l : ltb b (e .boat .0) ≡ true = grind (arith, tells) in l) a
+    ]
   where
     apart : (t : Bool) (x : ℕ) (o : Option ℕ) → cond t (Some x) o ≡ None → t ≡ false
     apart true x o h = cc

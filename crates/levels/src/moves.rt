@@ -20,7 +20,11 @@ impl Standing {
     pub fn first() -> Standing
         ensures { λ r. ⌜ view r ≡ spec.first ⌝ }
     {
-        Standing { program: Program(1), floor: Program(1), level: Level(1) }
+        Standing {
+            program: Program(1),
+            floor: Program(1),
+            level: Level(1),
+        }
     }
 
     // A program at least as new.
@@ -30,7 +34,11 @@ impl Standing {
         if to < self.program {
             return Err(Refusal::Invalid);
         }
-        Ok(Standing { program: to, floor: self.floor, level: self.level })
+        Ok(Standing {
+            program: to,
+            floor: self.floor,
+            level: self.level,
+        })
     }
 
     // An older program, not below the floor.
@@ -43,14 +51,22 @@ impl Standing {
         if to < self.floor {
             return Err(Refusal::BelowFloor);
         }
-        Ok(Standing { program: to, floor: self.floor, level: self.level })
+        Ok(Standing {
+            program: to,
+            floor: self.floor,
+            level: self.level,
+        })
     }
 
     // The floor becomes the present program.
     pub fn promised(self) -> Standing
         ensures { λ r. ⌜ view r ≡ spec.promised (view self) ⌝ }
     {
-        Standing { program: self.program, floor: self.program, level: self.level }
+        Standing {
+            program: self.program,
+            floor: self.program,
+            level: self.level,
+        }
     }
 
     // A level that is heard is taken if it is above its own.
@@ -58,7 +74,11 @@ impl Standing {
         ensures { λ r. ⌜ view r ≡ spec.raised (view self) (level .0) ⌝ }
     {
         if self.level < level {
-            Standing { program: self.program, floor: self.floor, level }
+            Standing {
+                program: self.program,
+                floor: self.floor,
+                level,
+            }
         } else {
             self
         }

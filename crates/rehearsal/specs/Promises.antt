@@ -4,19 +4,20 @@ use Prim.Native.Nat.{ℕ, _≤_, _<_}
 use mathlib.Core.Path.{_≡_}
 use mathlib.Core.Bool.{Bool, true, false}
 use mathlib.Core.List.{List, [], _∷_, _++_, List·Memᴰ}
+use lib.ListN.{getD}
 use Rattle.std.specs.Options.{isSome}
 use Rattle.std.specs.declared.option.Option.the-variants.{Some, None}
 use Rattle.std.specs.declared.result.Result.{Result}
 use Rattle.std.specs.declared.result.Result.the-variants.{Ok, Err}
-use Rattle.levels.specs.Verdicts.{Verdict}
+use Rattle.levels.specs.Verdicts.{Verdict, Number}
 use Rattle.levels.specs.Rules.{reads}
 use Rattle.levels.specs.Entries.{floorOf}
 use Rattle.rehearsal.specs.declared.messages.Word.{Word}
 use Rattle.rehearsal.specs.declared.messages.Notice.{Notice}
 use Rattle.rehearsal.specs.declared.messages.Notice.the-variants.{Promised, Heard, Allowed, Taken}
 use Rattle.rehearsal.specs.declared.events.Event.{Event}
-use Rattle.rehearsal.specs.declared.events.Event.the-variants.{GoBack}
-use Rattle.rehearsal.specs.Worlds.{World, start, play, tells, placeOf, opening, stateAt}
+use Rattle.rehearsal.specs.declared.events.Event.the-variants.{GoBack, BringWord}
+use Rattle.rehearsal.specs.Worlds.{World, start, play, tells, placeOf, opening, stateAt, noWord}
 use Rattle.rehearsal.specs.Abstract.{boatOf, heardOf}
 
 -- the world after an event: what is refused changes nothing
@@ -46,6 +47,7 @@ Holds w (Taken b k) = k .0 ≤ boatOf w (b .0) .standing .level
 pub record Promises (w : World) : Type 0 where
   -- every word that was ever sent to a boat of the list is in a form that its program reads: whenever it comes, it is never turned away
   pub readable : (x : Word) → List·Memᴰ x (w .words) → Listed w (x .to .0) → reads (boatOf w (x .to .0) .standing .program) (x .form .0) ≡ true
+  pub taken : (n : ℕ) → Listed w (getD (w .words) n noWord .to .0) → play w (BringWord n) ≡ Err (Number 1) → ⊥
   -- every word is in a form of at most the level of the boat that said it, and of at most the level said
   pub spoken : (x : Word) → List·Memᴰ x (w .words) → (x .form .0 ≤ boatOf w (x .from .0) .standing .level) × (x .form .0 ≤ w .harbour .said)
   -- nobody's level is above the level said, nor that above the floor of anybody on the list, nor a floor above its program
@@ -64,7 +66,6 @@ pub record Promises (w : World) : Type 0 where
 abbrev pub RunPromises : Type 0
 RunPromises = (n : ℕ) (es : List Event) → Promises (run n es)
 
--- a world that events have made
-pub data Reach : World → Type 0 where
-  begin : (n : ℕ) → Reach (start n)
-  then : {w v : World} → Reach w → (e : Event) → play w e ≡ Ok v → Reach v
+-- a world that events have made from the start
+abbrev pub Reached : World → Type 0
+Reached w = (n : ℕ) × (es : List Event) × (run n es ≡ w)

@@ -39,7 +39,10 @@ impl Ledger {
     pub fn new(heap: Global) -> Ledger
         ensures { λ r. ⌜ book r ≡ blank ⌝ }
     {
-        Ledger { boats: Vec::new(heap), said: Level(1) }
+        Ledger {
+            boats: Vec::new(heap),
+            said: Level(1),
+        }
     }
 
     // The highest level that was said.
@@ -82,7 +85,14 @@ impl Ledger {
         if self.boats.len() >= MOST {
             return Err(Refusal::Full);
         }
-        self.boats.insert(i, Entry { boat, floor: Program(1) })?;
+        self.boats
+            .insert(
+                i,
+                Entry {
+                    boat,
+                    floor: Program(1),
+                },
+            )?;
         Ok(())
     }
 

@@ -25,9 +25,17 @@ impl Fleet {
         }
         let mut vessels = Vec::new(heap);
         for _ in 0..boats {
-            vessels.push(Vessel { standing: Standing::first(), answered: false })?;
+            vessels.push(Vessel {
+                standing: Standing::first(),
+                answered: false,
+            })?;
         }
-        Ok(Fleet { harbour: Ledger::new(heap), boats: vessels, words: Vec::new(heap), notices: Vec::new(heap) })
+        Ok(Fleet {
+            harbour: Ledger::new(heap),
+            boats: vessels,
+            words: Vec::new(heap),
+            notices: Vec::new(heap),
+        })
     }
 
     // The boats: boat number i is at place i - 1.

@@ -37,7 +37,10 @@ fn tell_each(notices: &mut Vec<Notice>, boats: &[Entry], level: Level)
     ensures { λ _. ⌜ vec-items (now (notices .exit)) ≡ vec-items (now (notices .entry)) ++ spec.toEach (level .0) (now (boats .entry)) ⌝ }
 {
     for listed in boats {
-        notices.push_reserved(Notice::Allowed { to: listed.boat, level });
+        notices.push_reserved(Notice::Allowed {
+            to: listed.boat,
+            level,
+        });
     }
 }
 
@@ -50,7 +53,10 @@ impl Fleet {
         if number < 1 || number > self.boats.len() {
             return None;
         }
-        Some(Berth { place: number - 1, vessel: self.boats[number - 1] })
+        Some(Berth {
+            place: number - 1,
+            vessel: self.boats[number - 1],
+        })
     }
 
     // The boat at a place is another.
@@ -75,9 +81,18 @@ impl Fleet {
         ensures { λ r. ⌜ Tries (Ok (spec.opening (world (now (self .entry))) place (boat .0) (view standing))) r (world (now (self .entry))) (world (now (self .exit))) ⌝ }
     {
         if standing.floor.0 > 1 {
-            self.tell(Notice::Promised { from: boat, floor: standing.floor })?;
+            self.tell(Notice::Promised {
+                from: boat,
+                floor: standing.floor,
+            })?;
         }
-        self.moor(place, Vessel { standing, answered: false });
+        self.moor(
+            place,
+            Vessel {
+                standing,
+                answered: false,
+            },
+        );
         Ok(())
     }
 
@@ -123,7 +138,10 @@ impl Fleet {
         let before = at.vessel.standing;
         let standing = before.promised();
         let answered = at.vessel.answered && before.program <= before.floor;
-        self.tell(Notice::Promised { from: boat, floor: before.program })?;
+        self.tell(Notice::Promised {
+            from: boat,
+            floor: before.program,
+        })?;
         self.moor(at.place, Vessel { standing, answered });
         Ok(())
     }
@@ -175,7 +193,8 @@ impl Fleet {
     {
         self.notices.reserve(1)?;
         let floor = self.harbour.hear(from, floor)?;
-        self.notices.push_reserved(Notice::Heard { to: from, floor });
+        self.notices
+            .push_reserved(Notice::Heard { to: from, floor });
         Ok(())
     }
 
@@ -200,8 +219,17 @@ impl Fleet {
             return Err(Refusal::Invalid);
         };
         let standing = at.vessel.standing.raised(level);
-        self.tell(Notice::Taken { from: to, level: standing.level })?;
-        self.moor(at.place, Vessel { standing, answered: at.vessel.answered });
+        self.tell(Notice::Taken {
+            from: to,
+            level: standing.level,
+        })?;
+        self.moor(
+            at.place,
+            Vessel {
+                standing,
+                answered: at.vessel.answered,
+            },
+        );
         Ok(())
     }
 

@@ -6,6 +6,7 @@ ghost use Rattle.levels.specs.Verdicts.{Tries};
 ghost use Rattle.rehearsal.specs.Worlds.{world, states};
 ghost use Rattle.rehearsal.specs.Worlds as spec;
 ghost use Rattle.rehearsal.specs.Rehearsals.{Began};
+ghost use Rattle.rehearsal.specs.Promises.{Promises, RunPromises};
 use super::Rehearsal;
 use crate::events::Event;
 use crate::fleet::Fleet;
@@ -27,7 +28,8 @@ impl Rehearsal {
 
     // Plays one event. What is refused changes nothing.
     pub fn play(&mut self, event: Event) -> Result<(), Refusal>
-        ensures { λ r. ⌜ Tries (spec.play (world (now (self .entry) .fleet)) event) r (world (now (self .entry) .fleet)) (world (now (self .exit) .fleet)) ⌝ }
+        ensures plays { λ r. ⌜ Tries (spec.play (world (now (self .entry) .fleet)) event) r (world (now (self .entry) .fleet)) (world (now (self .exit) .fleet)) ⌝ }
+        ensures promises { λ r. ⌜ ∥ Promises (world (now (self .exit) .fleet)) ∥₁ ⌝ }
     {
         self.fleet.play(event)
     }
@@ -59,4 +61,11 @@ impl Rehearsal {
     {
         self.fleet.notices()
     }
+}
+
+// After every list of events from the start all is as promised.
+pub fn promises_stand() -> u8
+    ensures { λ _. ⌜ RunPromises ⌝ }
+{
+    0
 }
