@@ -23,12 +23,13 @@ pub enum Reason {
 
 pub impl fmt::Display for Reason as ReasonDisplay {
     fn fmt<W: fmt::Write>(&self, f: &mut fmt::Formatter<W>) -> fmt::Result {
-        match self {
-            Reason::Text(text) => write!(f, "{text}"),
-            Reason::NoBoat(BoatId(boat)) => write!(f, "no boat {boat}"),
-            Reason::BelowFloor(Program(floor)) => write!(f, "below its floor {floor}"),
-            Reason::NotPromised(BoatId(boat)) => write!(f, "boat {boat} has not promised it"),
-        }
+        let (before, number, after) = match self {
+            Reason::Text(text) => return f.write_str(text),
+            Reason::NoBoat(boat) => ("no boat ", boat.0 as u32, ""),
+            Reason::BelowFloor(floor) => ("below its floor ", floor.0, ""),
+            Reason::NotPromised(boat) => ("boat ", boat.0 as u32, " has not promised it"),
+        };
+        write!(f, "{before}{number}{after}")
     }
 }
 
@@ -53,15 +54,16 @@ pub enum Answer {
 
 pub impl fmt::Display for Answer as AnswerDisplay {
     fn fmt<W: fmt::Write>(&self, f: &mut fmt::Formatter<W>) -> fmt::Result {
-        match self {
-            Answer::Done => write!(f, "ok"),
-            Answer::Over(number, reason) => write!(f, "over {number} {reason}"),
-            Answer::No(number, reason) => write!(f, "no {number} {reason}"),
-            Answer::Bad(reason) => write!(f, "bad {reason}"),
-            Answer::NoMemory => write!(f, "no - memory"),
-            Answer::Lost => write!(f, "lost"),
-            Answer::Late => write!(f, "late"),
-        }
+        let (word, number, reason) = match self {
+            Answer::Done => return f.write_str("ok"),
+            Answer::Over(number, reason) => ("over", number, reason),
+            Answer::No(number, reason) => ("no", number, reason),
+            Answer::Bad(reason) => return write!(f, "bad {reason}"),
+            Answer::NoMemory => return f.write_str("no - memory"),
+            Answer::Lost => return f.write_str("lost"),
+            Answer::Late => return f.write_str("late"),
+        };
+        write!(f, "{word} {number} {reason}")
     }
 }
 
@@ -76,7 +78,7 @@ pub struct Text {
 
 impl Text {
     // What a word says, as far as it is played: its form.
-    pub fn of_word(word: Word) -> Text {
+    pub(crate) fn of_word(word: Word) -> Text {
         Text {
             fact: "form",
             number: word.form.0 as u32,
@@ -86,7 +88,7 @@ impl Text {
     }
 
     // What a notice says.
-    pub fn of_notice(notice: Notice) -> Text {
+    pub(crate) fn of_notice(notice: Notice) -> Text {
         match notice {
             Notice::Promised {
                 from: BoatId(from),

@@ -134,44 +134,29 @@ impl<'a> Words<'a> {
         Err("a message is w or n and a number from 1")
     }
 
-    // The rest of what a boat does.
+    // The rest of what a boat does: its number, and what else belongs to it.
     fn boat_step(&mut self, word: &str) -> Result<Step, Reason> {
+        let boat = self.boat()?;
         match word {
-            "renew" => Ok(Step::Renew {
-                boat: self.boat()?,
-                to: self.program()?,
-            }),
-            "back" => Ok(Step::Back {
-                boat: self.boat()?,
-                to: self.program()?,
-            }),
-            "promise" => Ok(Step::Promise { boat: self.boat()? }),
-            "tick" => Ok(Step::Tick { boat: self.boat()? }),
-            "cut" => Ok(Step::Cut { boat: self.boat()? }),
-            "say" => Ok(Step::Say {
-                from: self.boat()?,
-                to: self.boat()?,
-                given: self.form()?,
-            }),
-            _ => Err("unknown command"),
+            "renew" => Ok(Step::Renew { boat, to: self.program()? }),
+            "back" => Ok(Step::Back { boat, to: self.program()? }),
+            "promise" => Ok(Step::Promise { boat }),
+            "tick" => Ok(Step::Tick { boat }),
+            "cut" => Ok(Step::Cut { boat }),
+            _ => Ok(Step::Say { from: boat, to: self.boat()?, given: self.form()? }),
         }
     }
 
     // The rest of a step that begins with a word.
     fn step(&mut self, word: &str) -> Result<Step, Reason> {
         match word {
-            "level" => Ok(Step::Announce {
-                level: self.level()?,
-            }),
-            "raise" => Ok(Step::Raise {
-                level: self.level()?,
-            }),
-            "come" => Ok(Step::Come {
-                message: self.message()?,
-            }),
+            "renew" | "back" | "promise" | "tick" | "cut" | "say" => self.boat_step(word),
+            "level" => Ok(Step::Announce { level: self.level()? }),
+            "raise" => Ok(Step::Raise { level: self.level()? }),
+            "come" => Ok(Step::Come { message: self.message()? }),
             "lose" => Ok(Step::Lose),
             "late" => Ok(Step::Hold),
-            _ => self.boat_step(word),
+            _ => Err("unknown command"),
         }
     }
 
@@ -195,7 +180,7 @@ impl<'a> Words<'a> {
 }
 
 // Reads a line: words with one space between two. The first fault from the left is the reason.
-pub fn parse(line: &str) -> Result<Command, Reason> {
+pub(crate) fn parse(line: &str) -> Result<Command, Reason> {
     let mut words = Words { rest: line };
     let word = words.next()?;
     let command = words.command(word)?;

@@ -45,7 +45,7 @@ pub struct Player {
 
 impl Player {
     // So many boats at their start, all of them on the harbour's list.
-    pub fn new(heap: Global, boats: u16) -> Result<Player, Refusal> {
+    pub(crate) fn new(heap: Global, boats: u16) -> Result<Player, Refusal> {
         let mut rehearsal = Rehearsal::new(heap, boats as usize)?;
         for i in 0..boats {
             rehearsal.play(Event::Enlist {
@@ -61,7 +61,7 @@ impl Player {
     }
 
     // The rehearsal as it stands.
-    pub fn rehearsal(&self) -> &Rehearsal {
+    pub(crate) fn rehearsal(&self) -> &Rehearsal {
         &self.rehearsal
     }
 
@@ -104,7 +104,7 @@ impl Player {
     }
 
     // A fate more waits for the messages to be sent.
-    fn expect(&mut self, fate: Fate) -> io::Result<Answer> {
+    fn queue(&mut self, fate: Fate) -> io::Result<Answer> {
         self.ahead.push_back(fate)?;
         Ok(Answer::Done)
     }
@@ -119,8 +119,8 @@ impl Player {
             Step::Announce { level } => Event::Announce { level },
             Step::Cut { boat } => Event::Restart { boat },
             Step::Say { from, to, given } => Event::Say { from, to, given },
-            Step::Lose => return self.expect(Fate::Lost),
-            Step::Hold => return self.expect(Fate::Late),
+            Step::Lose => return self.queue(Fate::Lost),
+            Step::Hold => return self.queue(Fate::Late),
             Step::Come { message } => return Ok(self.come(message)),
             Step::Raise { level } => return Ok(self.raise(level)),
         };
@@ -128,7 +128,7 @@ impl Player {
     }
 
     // Plays a step, and prints its answer and the messages that it sends.
-    pub fn step(&mut self, step: Step, echo: &str, out: &mut Output) -> io::Result<()> {
+    pub(crate) fn step(&mut self, step: Step, echo: &str, out: &mut Output) -> io::Result<()> {
         let answer = self.act(step)?;
         writeln!(out, "{echo}: {answer}")?;
         if let Step::Raise { level: _ } = step {
@@ -149,7 +149,7 @@ impl Player {
     }
 
     // Plays so many steps, drawn from a seed.
-    pub fn draw(
+    pub(crate) fn draw(
         &mut self,
         heap: Global,
         seed: u64,

@@ -66,12 +66,12 @@ impl Line {
     }
 
     // Was there more of it than is kept?
-    pub fn is_long(&self) -> bool {
+    pub(crate) fn is_long(&self) -> bool {
         self.long
     }
 
     // Its words with one space between two; a byte that cannot be printed is a question mark.
-    pub fn plain(&self, heap: Global) -> Result<String, AllocError> {
+    pub(crate) fn plain(&self, heap: Global) -> Result<String, AllocError> {
         let mut text = String::new(heap);
         let mut gap = false;
         for b in self.bytes.as_slice() {
@@ -99,7 +99,7 @@ fn printable(byte: u8) -> char {
 }
 
 // The first part of a text, for an answer.
-pub fn shortened(heap: Global, text: &str) -> Result<String, AllocError> {
+pub(crate) fn shortened(heap: Global, text: &str) -> Result<String, AllocError> {
     let mut short = String::new(heap);
     for (i, c) in text.chars().enumerate() {
         if i >= MOST_SHOWN {
@@ -138,7 +138,7 @@ fn take_part(input: &mut BufReader<Stdin>, line: &mut Line) -> io::Result<Part> 
 }
 
 // The next line, unless the input has ended. A last line needs no end of its own.
-pub fn next_line(heap: Global, input: &mut BufReader<Stdin>) -> io::Result<Option<Line>> {
+pub(crate) fn next_line(heap: Global, input: &mut BufReader<Stdin>) -> io::Result<Option<Line>> {
     let mut line = Line::new(heap);
     for _ in 0..u64::MAX {
         match take_part(input, &mut line)? {

@@ -23,7 +23,7 @@ pub struct Draws {
 
 impl Draws {
     // The generator at the start of a seed.
-    pub fn new(seed: u64) -> Draws {
+    pub(crate) fn new(seed: u64) -> Draws {
         Draws { state: seed }
     }
 
@@ -74,7 +74,7 @@ impl Draws {
     }
 
     // One step.
-    pub fn step(&mut self, scene: Scene) -> Step
+    pub(crate) fn step(&mut self, scene: Scene) -> Step
         requires { ⌜ 1 ≤ scene .boats ⌝ }
     {
         let boats = scene.boats;

@@ -29,7 +29,7 @@ pub struct Stage {
 
 impl Stage {
     // A stage with no boats yet.
-    pub fn new(heap: Global, out: Stdout) -> Stage {
+    pub(crate) fn new(heap: Global, out: Stdout) -> Stage {
         Stage {
             heap,
             player: None,
@@ -37,10 +37,14 @@ impl Stage {
         }
     }
 
+    // Prints the answer to a line.
+    fn answer(&mut self, echo: &str, answer: Answer) -> io::Result<()> {
+        writeln!(self.out, "{echo}: {answer}")
+    }
+
     // Answers what cannot be played.
     fn bad(&mut self, echo: &str, reason: &'static str) -> io::Result<()> {
-        let answer = Answer::Bad(Reason::Text(reason));
-        writeln!(self.out, "{echo}: {answer}")
+        self.answer(echo, Answer::Bad(Reason::Text(reason)))
     }
 
     // Makes the boats, unless they are there.
@@ -48,14 +52,11 @@ impl Stage {
         if self.player.is_some() {
             return self.bad(echo, "the boats are there already");
         }
-        let answer = match Player::new(self.heap, boats) {
-            Ok(player) => {
-                self.player = Some(player);
-                Answer::Done
-            }
-            Err(_) => Answer::NoMemory,
+        let Ok(player) = Player::new(self.heap, boats) else {
+            return self.answer(echo, Answer::NoMemory);
         };
-        writeln!(self.out, "{echo}: {answer}")
+        self.player = Some(player);
+        self.answer(echo, Answer::Done)
     }
 
     // Plays a step.
@@ -95,7 +96,7 @@ impl Stage {
     }
 
     // Plays a line. One with no words, and one that begins with `#`, is passed over.
-    pub fn line(&mut self, line: &Line) -> io::Result<()> {
+    pub(crate) fn line(&mut self, line: &Line) -> io::Result<()> {
         let text = line.plain(self.heap)?;
         if text.as_str().starts_with('#') {
             return Ok(());
@@ -113,7 +114,7 @@ impl Stage {
     }
 
     // Prints the table at the end, if there are boats.
-    pub fn end(&mut self) -> io::Result<()> {
+    pub(crate) fn end(&mut self) -> io::Result<()> {
         if let Some(player) = &self.player {
             table::print(self.heap, player.rehearsal(), &mut self.out)?;
         }

@@ -15,7 +15,7 @@ pub enum Message {
 
 impl Message {
     // Its coming to the station that it is for.
-    pub fn coming(self) -> Event {
+    pub(crate) fn coming(self) -> Event {
         match self {
             Message::Word(n) => Event::BringWord {
                 number: n.saturating_sub(1) as usize,
@@ -85,34 +85,39 @@ pub enum Step {
     },
 }
 
+impl Step {
+    // Its command and the numbers after it; of `come` the message stands for them.
+    fn spelled(self) -> (&'static str, [Option<u32>; 3]) {
+        match self {
+            Step::Renew { boat, to } => ("renew", [Some(boat.0 as u32), Some(to.0), None]),
+            Step::Back { boat, to } => ("back", [Some(boat.0 as u32), Some(to.0), None]),
+            Step::Promise { boat } => ("promise", [Some(boat.0 as u32), None, None]),
+            Step::Tick { boat } => ("tick", [Some(boat.0 as u32), None, None]),
+            Step::Announce { level } => ("level", [Some(level.0), None, None]),
+            Step::Cut { boat } => ("cut", [Some(boat.0 as u32), None, None]),
+            Step::Say { from, to, given } => {
+                ("say", [Some(from.0 as u32), Some(to.0 as u32), Some(given.0 as u32)])
+            }
+            Step::Lose => ("lose", [None, None, None]),
+            Step::Hold => ("late", [None, None, None]),
+            Step::Come { message: _ } => ("come", [None, None, None]),
+            Step::Raise { level } => ("raise", [Some(level.0), None, None]),
+        }
+    }
+}
+
 pub impl fmt::Display for Step as StepDisplay {
     fn fmt<W: fmt::Write>(&self, f: &mut fmt::Formatter<W>) -> fmt::Result {
-        match self {
-            Step::Renew {
-                boat: BoatId(boat),
-                to: Program(to),
-            } => write!(f, "renew {boat} {to}"),
-            Step::Back {
-                boat: BoatId(boat),
-                to: Program(to),
-            } => write!(f, "back {boat} {to}"),
-            Step::Promise { boat: BoatId(boat) } => write!(f, "promise {boat}"),
-            Step::Tick { boat: BoatId(boat) } => write!(f, "tick {boat}"),
-            Step::Announce {
-                level: Level(level),
-            } => write!(f, "level {level}"),
-            Step::Cut { boat: BoatId(boat) } => write!(f, "cut {boat}"),
-            Step::Say {
-                from: BoatId(from),
-                to: BoatId(to),
-                given: FormNumber(given),
-            } => { write!(f, "say {from} {to} {given}") }
-            Step::Lose => write!(f, "lose"),
-            Step::Hold => write!(f, "late"),
-            Step::Come { message } => write!(f, "come {message}"),
-            Step::Raise {
-                level: Level(level),
-            } => write!(f, "raise {level}"),
+        let (command, numbers) = self.spelled();
+        f.write_str(command)?;
+        for number in numbers {
+            if let Some(n) = number {
+                write!(f, " {n}")?;
+            }
         }
+        if let Step::Come { message } = self {
+            write!(f, " {message}")?;
+        }
+        Ok(())
     }
 }

@@ -71,12 +71,12 @@ fn yes_no(truth: bool) -> &'static str {
 
 // The names of the columns.
 fn heading(forms: &[FormNumber], out: &mut Output) -> io::Result<()> {
-    write!(out, "boat  program  floor  level  told")?;
+    out.write_all(b"boat  program  floor  level  told")?;
     for form in forms {
         let number = form.0;
         write!(out, "  form {number}")?;
     }
-    writeln!(out, "")
+    out.write_all(b"\n")
 }
 
 // The line of a boat.
@@ -96,7 +96,7 @@ fn row(
         let read = yes_no(reads(standing.program, *form));
         write!(out, "{read:>8}")?;
     }
-    writeln!(out, "")
+    out.write_all(b"\n")
 }
 
 // The last line: what was said, how much was sent, and whether all of it can be read.
@@ -116,7 +116,7 @@ fn footing(rehearsal: &Rehearsal, out: &mut Output) -> io::Result<()> {
 }
 
 // Prints the table.
-pub fn print(heap: Global, rehearsal: &Rehearsal, out: &mut Output) -> io::Result<()> {
+pub(crate) fn print(heap: Global, rehearsal: &Rehearsal, out: &mut Output) -> io::Result<()> {
     let forms = forms_on_air(heap, rehearsal.words())?;
     heading(forms.as_slice(), out)?;
     let mut boat: u16 = 0;
