@@ -1,4 +1,5 @@
 // What is printed of a step and of a message.
+use crate::faults::Fault;
 use levels::numbers::BoatId;
 use levels::numbers::FormNumber;
 use levels::numbers::Level;
@@ -15,7 +16,7 @@ pub type Output = BufWriter<Stdout>;
 // Why something was not done.
 #[derive(Clone, Copy)]
 pub enum Reason {
-    Text(&'static str),
+    Fault(Fault),
     NoBoat(BoatId),
     BelowFloor(Program),
     NotPromised(BoatId),
@@ -24,7 +25,7 @@ pub enum Reason {
 pub impl fmt::Display for Reason as ReasonDisplay {
     fn fmt<W: fmt::Write>(&self, f: &mut fmt::Formatter<W>) -> fmt::Result {
         let (before, number, after) = match self {
-            Reason::Text(text) => return f.write_str(text),
+            Reason::Fault(fault) => return f.write_str(fault.text()),
             Reason::NoBoat(boat) => ("no boat ", boat.0 as u32, ""),
             Reason::BelowFloor(floor) => ("below its floor ", floor.0, ""),
             Reason::NotPromised(boat) => ("boat ", boat.0 as u32, " has not promised it"),
@@ -67,10 +68,33 @@ pub impl fmt::Display for Answer as AnswerDisplay {
     }
 }
 
+// What a message may say.
+#[derive(Clone, Copy)]
+enum Fact {
+    Form,
+    Promised,
+    Heard,
+    Level,
+    HasIt,
+}
+
+impl Fact {
+    // Its name.
+    fn name(self) -> &'static str {
+        match self {
+            Fact::Form => "form",
+            Fact::Promised => "promised",
+            Fact::Heard => "heard",
+            Fact::Level => "level",
+            Fact::HasIt => "has it",
+        }
+    }
+}
+
 // What a message says: a fact with a number, from one station to another. The harbour is 0.
 #[derive(Clone, Copy)]
 pub struct Text {
-    fact: &'static str,
+    fact: Fact,
     number: u32,
     from: u16,
     to: u16,
@@ -80,7 +104,7 @@ impl Text {
     // What a word says, as far as it is played: its form.
     pub(crate) fn of_word(word: Word) -> Text {
         Text {
-            fact: "form",
+            fact: Fact::Form,
             number: word.form.0 as u32,
             from: word.from.0,
             to: word.to.0,
@@ -95,7 +119,7 @@ impl Text {
                 floor: Program(number),
             } => {
                 Text {
-                    fact: "promised",
+                    fact: Fact::Promised,
                     number,
                     from,
                     to: 0,
@@ -106,7 +130,7 @@ impl Text {
                 floor: Program(number),
             } => {
                 Text {
-                    fact: "heard",
+                    fact: Fact::Heard,
                     number,
                     from: 0,
                     to,
@@ -117,7 +141,7 @@ impl Text {
                 level: Level(number),
             } => {
                 Text {
-                    fact: "level",
+                    fact: Fact::Level,
                     number,
                     from: 0,
                     to,
@@ -128,7 +152,7 @@ impl Text {
                 level: Level(number),
             } => {
                 Text {
-                    fact: "has it",
+                    fact: Fact::HasIt,
                     number,
                     from,
                     to: 0,
@@ -140,12 +164,10 @@ impl Text {
 
 pub impl fmt::Display for Text as TextDisplay {
     fn fmt<W: fmt::Write>(&self, f: &mut fmt::Formatter<W>) -> fmt::Result {
-        let Text {
-            fact,
-            number,
-            from,
-            to,
-        } = self;
+        let fact = self.fact.name();
+        let number = self.number;
+        let from = self.from;
+        let to = self.to;
         write!(f, "{fact} {number} from {from} to {to}")
     }
 }

@@ -2,6 +2,7 @@
 ghost use Prim.Native.Nat.{_≤_};
 ghost use Rattle.std.specs.Options.{Cases as BySome};
 ghost use Rattle.std.specs.Results.{Cases};
+use crate::faults::Fault;
 use crate::steps::Message;
 use crate::steps::Step;
 use levels::numbers::BoatId;
@@ -25,13 +26,50 @@ pub enum Command {
     Play(Step),
 }
 
-// Why a line is no command.
-pub type Reason = &'static str;
+// What a boat may do; its number stands next.
+#[derive(Clone, Copy)]
+enum Deed {
+    Renew,
+    Back,
+    Promise,
+    Tick,
+    Cut,
+    Say,
+}
+
+// The first word of a step.
+#[derive(Clone, Copy)]
+enum Verb {
+    Boat(Deed),
+    Level,
+    Lose,
+    Late,
+    Come,
+    Raise,
+}
 
 // The words of a line that are still to be read, one space between two.
 #[derive(Drop)]
 struct Words<'a> {
     rest: &'a str,
+}
+
+// The verb that a word is.
+fn verb_of(word: &str) -> Result<Verb, Fault> {
+    match word {
+        "renew" => Ok(Verb::Boat(Deed::Renew)),
+        "back" => Ok(Verb::Boat(Deed::Back)),
+        "promise" => Ok(Verb::Boat(Deed::Promise)),
+        "tick" => Ok(Verb::Boat(Deed::Tick)),
+        "level" => Ok(Verb::Level),
+        "cut" => Ok(Verb::Boat(Deed::Cut)),
+        "say" => Ok(Verb::Boat(Deed::Say)),
+        "lose" => Ok(Verb::Lose),
+        "late" => Ok(Verb::Late),
+        "come" => Ok(Verb::Come),
+        "raise" => Ok(Verb::Raise),
+        _ => Err(Fault::UnknownCommand),
+    }
 }
 
 // Has a word nothing but digits?
@@ -62,9 +100,9 @@ fn number(word: &str, least: u64, most: u64) -> Option<u64>
 
 impl<'a> Words<'a> {
     // The next word.
-    fn next(&mut self) -> Result<&'a str, Reason> {
+    fn next(&mut self) -> Result<&'a str, Fault> {
         if self.rest.is_empty() {
-            return Err("too few words");
+            return Err(Fault::TooFewWords);
         }
         match self.rest.split_once(' ') {
             Some((word, rest)) => {
@@ -80,46 +118,46 @@ impl<'a> Words<'a> {
     }
 
     // The next word as a number between two others.
-    fn number(&mut self, least: u64, most: u64, reason: Reason) -> Result<u64, Reason>
+    fn number(&mut self, least: u64, most: u64, fault: Fault) -> Result<u64, Fault>
         ensures { λ r. ⌜ Cases r (λ n. (least ≤ n) × (n ≤ most)) (λ _. Unit {0}) ⌝ }
     {
         let word = self.next()?;
         match number(word, least, most) {
             Some(n) => Ok(n),
-            None => Err(reason),
+            None => Err(fault),
         }
     }
 
     // The next word as a boat's number.
-    fn boat(&mut self) -> Result<BoatId, Reason> {
-        let n = self.number(0, 65535, "a boat is a number up to 65535")?;
+    fn boat(&mut self) -> Result<BoatId, Fault> {
+        let n = self.number(0, 65535, Fault::NotBoat)?;
         Ok(BoatId(n as u16))
     }
 
     // The next word as a program.
-    fn program(&mut self) -> Result<Program, Reason>
+    fn program(&mut self) -> Result<Program, Fault>
         ensures { λ r. ⌜ Cases r (λ p. (1 ≤ p .0) × (p .0 ≤ 3)) (λ _. Unit {0}) ⌝ }
     {
-        let n = self.number(1, 3, "a program is 1 to 3")?;
+        let n = self.number(1, 3, Fault::NotProgram)?;
         Ok(Program(n as u32))
     }
 
     // The next word as a level.
-    fn level(&mut self) -> Result<Level, Reason>
+    fn level(&mut self) -> Result<Level, Fault>
         ensures { λ r. ⌜ Cases r (λ k. 1 ≤ k .0) (λ _. Unit {0}) ⌝ }
     {
-        let n = self.number(1, 4294967295, "a level is 1 to 4294967295")?;
+        let n = self.number(1, 4294967295, Fault::NotLevel)?;
         Ok(Level(n as u32))
     }
 
     // The next word as a form.
-    fn form(&mut self) -> Result<FormNumber, Reason> {
-        let n = self.number(0, 255, "a form is 0 to 255")?;
+    fn form(&mut self) -> Result<FormNumber, Fault> {
+        let n = self.number(0, 255, Fault::NotForm)?;
         Ok(FormNumber(n as u8))
     }
 
     // The next word as the name of a message.
-    fn message(&mut self) -> Result<Message, Reason> {
+    fn message(&mut self) -> Result<Message, Fault> {
         let word = self.next()?;
         if let Some(digits) = word.strip_prefix('w') {
             if let Some(n) = number(digits, 1, u64::MAX) {
@@ -131,61 +169,77 @@ impl<'a> Words<'a> {
                 return Ok(Message::Notice(n));
             }
         }
-        Err("a message is w or n and a number from 1")
+        Err(Fault::NotMessage)
     }
 
-    // The rest of what a boat does: its number, and what else belongs to it.
-    fn boat_step(&mut self, word: &str) -> Result<Step, Reason> {
-        let boat = self.boat()?;
-        match word {
-            "renew" => Ok(Step::Renew { boat, to: self.program()? }),
-            "back" => Ok(Step::Back { boat, to: self.program()? }),
-            "promise" => Ok(Step::Promise { boat }),
-            "tick" => Ok(Step::Tick { boat }),
-            "cut" => Ok(Step::Cut { boat }),
-            _ => Ok(Step::Say { from: boat, to: self.boat()?, given: self.form()? }),
+    // The rest of what a boat does.
+    fn deed(&mut self, boat: BoatId, deed: Deed) -> Result<Step, Fault> {
+        match deed {
+            Deed::Renew => Ok(Step::Renew {
+                boat,
+                to: self.program()?,
+            }),
+            Deed::Back => Ok(Step::Back {
+                boat,
+                to: self.program()?,
+            }),
+            Deed::Promise => Ok(Step::Promise { boat }),
+            Deed::Tick => Ok(Step::Tick { boat }),
+            Deed::Cut => Ok(Step::Cut { boat }),
+            Deed::Say => Ok(Step::Say {
+                from: boat,
+                to: self.boat()?,
+                given: self.form()?,
+            }),
         }
     }
 
-    // The rest of a step that begins with a word.
-    fn step(&mut self, word: &str) -> Result<Step, Reason> {
-        match word {
-            "renew" | "back" | "promise" | "tick" | "cut" | "say" => self.boat_step(word),
-            "level" => Ok(Step::Announce { level: self.level()? }),
-            "raise" => Ok(Step::Raise { level: self.level()? }),
-            "come" => Ok(Step::Come { message: self.message()? }),
-            "lose" => Ok(Step::Lose),
-            "late" => Ok(Step::Hold),
-            _ => Err("unknown command"),
+    // The rest of a step that begins with a verb.
+    fn step(&mut self, verb: Verb) -> Result<Step, Fault> {
+        match verb {
+            Verb::Boat(deed) => {
+                let boat = self.boat()?;
+                self.deed(boat, deed)
+            }
+            Verb::Level => Ok(Step::Announce {
+                level: self.level()?,
+            }),
+            Verb::Raise => Ok(Step::Raise {
+                level: self.level()?,
+            }),
+            Verb::Come => Ok(Step::Come {
+                message: self.message()?,
+            }),
+            Verb::Lose => Ok(Step::Lose),
+            Verb::Late => Ok(Step::Hold),
         }
+    }
+
+    // The seed and how many steps are drawn from it.
+    fn seed(&mut self) -> Result<Command, Fault> {
+        let seed = self.number(0, u64::MAX, Fault::NotSeed)?;
+        let count = self.number(0, MOST_DRAWN, Fault::NotCount)?;
+        Ok(Command::Seed { seed, count })
     }
 
     // The rest of a command that begins with a word.
-    fn command(&mut self, word: &str) -> Result<Command, Reason> {
+    fn command(&mut self, word: &str) -> Result<Command, Fault> {
         match word {
-            "boats" => Ok(Command::Boats(self.number(1, 8, "boats are 1 to 8")? as u16)),
-            "seed" => {
-                let seed = self.number(
-                    0,
-                    u64::MAX,
-                    "a seed is a number up to 18446744073709551615",
-                )?;
-                let count = self.number(0, MOST_DRAWN, "a seed draws 0 to 1000000 commands")?;
-                Ok(Command::Seed { seed, count })
-            }
+            "boats" => Ok(Command::Boats(self.number(1, 8, Fault::NotBoats)? as u16)),
+            "seed" => self.seed(),
             "read" => Ok(Command::Read),
-            _ => Ok(Command::Play(self.step(word)?)),
+            _ => Ok(Command::Play(self.step(verb_of(word)?)?)),
         }
     }
 }
 
-// Reads a line: words with one space between two. The first fault from the left is the reason.
-pub(crate) fn parse(line: &str) -> Result<Command, Reason> {
+// Reads a line: words with one space between two. The first fault from the left is the answer.
+pub(crate) fn parse(line: &str) -> Result<Command, Fault> {
     let mut words = Words { rest: line };
     let word = words.next()?;
     let command = words.command(word)?;
     if !words.rest.is_empty() {
-        return Err("too many words");
+        return Err(Fault::TooManyWords);
     }
     Ok(command)
 }

@@ -1,6 +1,7 @@
 // Plays a script of steps, read from standard input, on a harbour and its boats, and prints what happens.
 mod answers;
 mod command;
+mod faults;
 mod player;
 mod script;
 mod seed;

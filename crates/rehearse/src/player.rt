@@ -4,6 +4,7 @@ use crate::answers::Answer;
 use crate::answers::AnswerDisplay;
 use crate::answers::Output;
 use crate::answers::Reason;
+use crate::faults::Fault;
 use crate::seed::Draws;
 use crate::seed::Scene;
 use crate::steps::Message;
@@ -92,15 +93,15 @@ impl Player {
     // A message comes late, or once more.
     fn come(&mut self, message: Message) -> Answer {
         match self.fate(message) {
-            None => Answer::Bad(Reason::Text("never sent")),
-            Some(Fate::Lost) => Answer::Bad(Reason::Text("lost")),
+            None => Answer::Bad(Reason::Fault(Fault::NeverSent)),
+            Some(Fate::Lost) => Answer::Bad(Reason::Fault(Fault::Lost)),
             Some(_) => self.play(message.coming()),
         }
     }
 
     // The fleet is brought to a level.
     fn raise(&mut self, _level: Level) -> Answer {
-        Answer::Bad(Reason::Text("raise is not there yet"))
+        Answer::Bad(Reason::Fault(Fault::NoRaise))
     }
 
     // A fate more waits for the messages to be sent.

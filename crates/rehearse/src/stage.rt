@@ -5,6 +5,7 @@ use crate::answers::Output;
 use crate::answers::Reason;
 use crate::command::Command;
 use crate::command::parse;
+use crate::faults::Fault;
 use crate::player::Player;
 use crate::script::Line;
 use crate::script::shortened;
@@ -15,9 +16,6 @@ use std::io;
 use std::io::BufWriter;
 use std::io::Stdout;
 use std::io::Write;
-
-// The reason where a command wants boats.
-const NO_BOATS: &str = "no boats yet";
 
 // The player, once there are boats, and where all is printed.
 #[derive(Drop)]
@@ -43,14 +41,14 @@ impl Stage {
     }
 
     // Answers what cannot be played.
-    fn bad(&mut self, echo: &str, reason: &'static str) -> io::Result<()> {
-        self.answer(echo, Answer::Bad(Reason::Text(reason)))
+    fn bad(&mut self, echo: &str, fault: Fault) -> io::Result<()> {
+        self.answer(echo, Answer::Bad(Reason::Fault(fault)))
     }
 
     // Makes the boats, unless they are there.
     fn begin(&mut self, boats: u16, echo: &str) -> io::Result<()> {
         if self.player.is_some() {
-            return self.bad(echo, "the boats are there already");
+            return self.bad(echo, Fault::BoatsAlready);
         }
         let Ok(player) = Player::new(self.heap, boats) else {
             return self.answer(echo, Answer::NoMemory);
@@ -62,7 +60,7 @@ impl Stage {
     // Plays a step.
     fn step(&mut self, step: Step, echo: &str) -> io::Result<()> {
         let Some(player) = &mut self.player else {
-            return self.bad(echo, NO_BOATS);
+            return self.bad(echo, Fault::NoBoatsYet);
         };
         player.step(step, echo, &mut self.out)
     }
@@ -70,7 +68,7 @@ impl Stage {
     // Plays so many steps, drawn from a seed.
     fn draw(&mut self, seed: u64, count: u64, echo: &str) -> io::Result<()> {
         let Some(player) = &mut self.player else {
-            return self.bad(echo, NO_BOATS);
+            return self.bad(echo, Fault::NoBoatsYet);
         };
         writeln!(self.out, "{echo}: ok")?;
         player.draw(self.heap, seed, count, &mut self.out)
@@ -79,7 +77,7 @@ impl Stage {
     // Prints the table.
     fn read(&mut self, echo: &str) -> io::Result<()> {
         let Some(player) = &self.player else {
-            return self.bad(echo, NO_BOATS);
+            return self.bad(echo, Fault::NoBoatsYet);
         };
         writeln!(self.out, "{echo}: ok")?;
         table::print(self.heap, player.rehearsal(), &mut self.out)
@@ -103,11 +101,11 @@ impl Stage {
         }
         let echo = shortened(self.heap, text.as_str())?;
         if line.is_long() {
-            self.bad(echo.as_str(), "line too long")?;
+            self.bad(echo.as_str(), Fault::LongLine)?;
         } else if !text.is_empty() {
             match parse(text.as_str()) {
                 Ok(command) => self.play(command, echo.as_str())?,
-                Err(reason) => self.bad(echo.as_str(), reason)?,
+                Err(fault) => self.bad(echo.as_str(), fault)?,
             }
         }
         self.out.flush()

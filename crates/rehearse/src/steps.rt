@@ -96,7 +96,10 @@ impl Step {
             Step::Announce { level } => ("level", [Some(level.0), None, None]),
             Step::Cut { boat } => ("cut", [Some(boat.0 as u32), None, None]),
             Step::Say { from, to, given } => {
-                ("say", [Some(from.0 as u32), Some(to.0 as u32), Some(given.0 as u32)])
+                (
+                    "say",
+                    [Some(from.0 as u32), Some(to.0 as u32), Some(given.0 as u32)],
+                )
             }
             Step::Lose => ("lose", [None, None, None]),
             Step::Hold => ("late", [None, None, None]),

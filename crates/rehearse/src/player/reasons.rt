@@ -2,6 +2,7 @@
 use super::Player;
 use crate::answers::Answer;
 use crate::answers::Reason;
+use crate::faults::Fault;
 use levels::numbers::BoatId;
 use levels::refusals::Refusal;
 use levels::refusals::RefusalPartialEq;
@@ -17,21 +18,18 @@ impl Player {
             Event::Tick { boat } => Reason::NoBoat(boat),
             Event::Renew { boat, to: _ } => self.unless_there(
                 boat,
-                Reason::Text("an older program"),
+                Reason::Fault(Fault::OlderProgram),
             ),
             Event::GoBack { boat, to: _ } => self.unless_there(
                 boat,
-                Reason::Text("not an older program"),
+                Reason::Fault(Fault::NotOlder),
             ),
             Event::Say { from, to, given: _ } => {
-                self.unless_there(
-                    from,
-                    self.unless_there(to, Reason::Text("a word to itself")),
-                )
+                self.unless_there(from, self.unless_there(to, Reason::Fault(Fault::ToItself)))
             }
-            Event::Announce { level: _ } => Reason::Text("no level"),
-            Event::BringWord { number: _ } => Reason::Text("never sent"),
-            Event::BringNotice { number: _ } => Reason::Text("never sent"),
+            Event::Announce { level: _ } => Reason::Fault(Fault::NoSense),
+            Event::BringWord { number: _ } => Reason::Fault(Fault::NeverSent),
+            Event::BringNotice { number: _ } => Reason::Fault(Fault::NeverSent),
         }
     }
 
@@ -51,7 +49,7 @@ impl Player {
                 return Reason::BelowFloor(standing.floor);
             }
         }
-        Reason::Text("below its floor")
+        Reason::Fault(Fault::BelowFloor)
     }
 
     // Which boat has not promised the level of an event.
@@ -61,20 +59,20 @@ impl Player {
                 return Reason::NotPromised(boat);
             }
         }
-        Reason::Text("not promised")
+        Reason::Fault(Fault::NotPromised)
     }
 
     // Why an event was refused. It has changed nothing, so all is as it was before.
     fn reason(&self, event: Event, refusal: Refusal) -> Reason {
         match refusal {
-            Refusal::Malformed => Reason::Text("not readable"),
-            Refusal::OlderNumber => Reason::Text("an older number"),
+            Refusal::Malformed => Reason::Fault(Fault::NotReadable),
+            Refusal::OlderNumber => Reason::Fault(Fault::OlderNumber),
             Refusal::BelowFloor => self.floor_of(event),
             Refusal::NotPromised => self.lacking(event),
-            Refusal::NotListed => Reason::Text("not on the list"),
-            Refusal::Full => Reason::Text("full"),
+            Refusal::NotListed => Reason::Fault(Fault::NotListed),
+            Refusal::Full => Reason::Fault(Fault::Full),
             Refusal::Invalid => self.sense(event),
-            Refusal::NoMemory => Reason::Text("memory"),
+            Refusal::NoMemory => Reason::Fault(Fault::Memory),
         }
     }
 
