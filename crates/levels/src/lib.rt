@@ -2,6 +2,7 @@
 pub mod ledger;
 pub mod moves;
 pub mod numbers;
+pub mod programs;
 pub mod refusals;
 pub mod rules;
 pub mod standing;

@@ -5,15 +5,20 @@ use crate::numbers::BoatId;
 use crate::numbers::BoatIdPartialEq;
 use crate::numbers::FormNumber;
 use crate::numbers::Program;
+use crate::programs::program1;
+use crate::programs::program2;
+use crate::programs::program3;
 
-// The newest form that there is.
-pub const NEWEST_FORM: u8 = 3;
-
-// The newest form that a program reads and writes.
+// The newest form that a program reads and writes. There is no program 0.
 pub fn newest(program: Program) -> FormNumber
     ensures { λ r. ⌜ r .0 ≡ spec.newest (program .0) ⌝ }
 {
-    FormNumber(program.0.min(NEWEST_FORM as u32) as u8)
+    match program.0 {
+        0 => FormNumber(0),
+        1 => FormNumber(program1::GREATEST_FORM),
+        2 => FormNumber(program2::GREATEST_FORM),
+        _ => FormNumber(program3::GREATEST_FORM),
+    }
 }
 
 // Does a program read a form? Form 0 is none.

@@ -2,3 +2,4 @@ pub mod Worlds
 pub mod Rehearsals
 pub mod Abstract
 pub mod Promises
+pub mod Cases
