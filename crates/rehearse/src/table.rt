@@ -3,8 +3,9 @@ use crate::answers::Output;
 use levels::numbers::BoatId;
 use levels::numbers::FormNumber;
 use levels::numbers::FormNumberPartialEq;
+use levels::numbers::Program;
 use levels::numbers::ProgramPartialOrd;
-use levels::rules::NEWEST_FORM;
+use levels::rules::newest;
 use levels::rules::reads;
 use levels::standing::Standing;
 use rehearsal::messages::Word;
@@ -24,10 +25,10 @@ fn on_air(words: &[Word], form: FormNumber) -> bool {
     false
 }
 
-// The forms that are on the air.
+// The forms that are on the air, of those that any program writes.
 fn forms_on_air(heap: Global, words: &[Word]) -> Result<Vec<FormNumber>, AllocError> {
     let mut forms = Vec::new(heap);
-    for number in 1..=NEWEST_FORM {
+    for number in 1..=newest(Program(u32::MAX)).0 {
         if on_air(words, FormNumber(number)) {
             forms.push(FormNumber(number))?;
         }
