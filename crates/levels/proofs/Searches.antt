@@ -15,6 +15,8 @@ use Rattle.std.specs.Holes.{inserted}
 use Rattle.std.proofs.shelf.Tests.{le-leb, lt-leb, lt-ltb, le-ltb, eq-eqb, ne-eqb, and-from, and-left, and-right, and-parts, cond-true, cond-false}
 use Rattle.std.proofs.shelf.Ways.{tells}
 use Rattle.levels.specs.declared.ledger.Entry.{Entry}
+use Rattle.std.specs.declared.result.Result.the-variants.{Ok}
+use Rattle.levels.specs.Ledgers.{Book, listing}
 use Rattle.levels.specs.Entries.{entry, above, ascending, floorOf, entered, heard, lacking, boatAt, floorAt}
 
 -- nobody lacks a level that each has promised; the first that has not is the one found
@@ -141,3 +143,8 @@ pub ascending-tried : (b : ℕ) (es tried : List Entry) (i : ℕ) (t : Bool) →
 ascending-tried b es tried i true a l h g e =
     ap ascending (e ∙ entered-at b es i l h g) ∙ ascending-entered b es (absent b es i a l h g) a
 ascending-tried b es tried i false a l h g e = ap ascending e ∙ a
+
+-- when a boat is put on the list
+pub listing-new : (x : Book) (b : ℕ) → (b ≡ 0 → ⊥) → floorOf b (x .list) ≡ None → x .said ≤ 1 → length (x .list) < 4096 → listing x b ≡ Ok (record { list = entered b (x .list); said = x .said })
+listing-new x b z n s l =
+    cond-false _ _ _ (ne-eqb b 0 z) ∙ cond-false _ _ _ (ap isSome n) ∙ cond-false _ _ _ (le-ltb 1 (x .said) s) ∙ cond-false _ _ _ (lt-leb 4096 (length (x .list)) l)

@@ -4,6 +4,7 @@ use Prim.Native.Nat.{ℕ}
 use mathlib.Core.Path.{_≡_}
 use mathlib.Core.Bool.{Bool, true, false, _||_}
 use lib.Dec.{eqb}
+use Rattle.std.specs.Results.{isOk}
 use Rattle.std.specs.declared.option.Option.{Option}
 use Rattle.std.specs.declared.option.Option.the-variants.{Some, None}
 use Rattle.std.specs.declared.result.Result.{Result}
@@ -48,16 +49,21 @@ abbrev pub Does : {A : Type 0} → Result A Verdict → Result (Unit {0}) Refusa
 Does want (Ok u) x y = want ≡ Ok y
 Does want (Err e) x y = (want ≡ Err (verdict e)) × (y ≡ x)
 
+-- a call that only judges whether it can be done
+abbrev pub Judges : {A : Type 0} → Result A Verdict → Result (Unit {0}) Refusal → Type 0
+Judges want (Ok u) = isOk want ≡ true
+Judges want (Err e) = want ≡ Err (verdict e)
+
 -- a call that answers with a value, which means f of it
 abbrev pub Replies : {A B C : Type 0} → (C → B) → Result (B × A) Verdict → Result C Refusal → A → A → Type 0
 Replies f want (Ok v) x y = want ≡ Ok (f v, y)
 Replies f want (Err e) x y = (want ≡ Err (verdict e)) × (y ≡ x)
 
--- want of memory may come instead of anything; any other refusal is the one that is wanted
+-- want of memory may come only where the call would have done what is wanted; any other refusal is the one that is wanted
 abbrev pub Due : {A : Type 0} → Result A Verdict → Verdict → Type 0
 Due want (Number n) = want ≡ Err (Number n)
 Due want Bad = want ≡ Err Bad
-Due want Memory = Unit {0}
+Due want Memory = isOk want ≡ true
 
 -- the same of a call that may find no memory, which leaves x too
 abbrev pub Tries : {A : Type 0} → Result A Verdict → Result (Unit {0}) Refusal → A → A → Type 0

@@ -24,7 +24,13 @@ impl Slot {
         let form = came.form();
         let newer = if form.0 <= most.0 { None } else { Some(came) };
         let word = came.read().put(FormNumber(form.0.min(most.0)));
-        Slot { ship: came.ship(), from, number, word, newer }
+        Slot {
+            ship: came.ship(),
+            from,
+            number,
+            word,
+            newer,
+        }
     }
 
     // The word as it is shown: as it came, as long as that is known.

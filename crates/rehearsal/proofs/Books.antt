@@ -2,7 +2,7 @@
 -- Assumes nothing.
 use Prim.Native.Nat.{ℕ, _≤_, _<_, max}
 use mathlib.Core.Path.{_≡_, refl, sym, ap, _∙_}
-use mathlib.Core.Bool.{Bool, true, false, cond}
+use mathlib.Core.Bool.{Bool, true, false, cond, _&&_}
 use mathlib.Core.List.{List, [], _∷_}
 use mathlib.Core.Logic.{_⊎_, inl, inr}
 use native.Mathlib.Omega.{arith}
@@ -10,10 +10,11 @@ use lib.Dec.{eqb, ltb}
 use Rattle.std.specs.Options.{isSome, valueOr}
 use Rattle.std.specs.declared.option.Option.{Option}
 use Rattle.std.specs.declared.option.Option.the-variants.{Some, None}
-use Rattle.std.proofs.shelf.Tests.{cond-true, cond-false, ltb-false}
+use Rattle.std.proofs.shelf.Tests.{cond-true, cond-false, eq-eqb, ne-eqb, ltb-true, ltb-false, lt-ltb, le-ltb, and-parts, and-from}
 use Rattle.std.proofs.shelf.Ways.{tells}
 use Rattle.levels.specs.declared.ledger.Entry.{Entry}
-use Rattle.levels.specs.Entries.{floorOf, entered, heard, lacking}
+use Rattle.rehearsal.specs.Rising.{numbersOf}
+use Rattle.levels.specs.Entries.{entry, above, ascending, floorOf, entered, heard, lacking}
 
 pub both : (b : Bool) → (b ≡ true) ⊎ (b ≡ false)
 both true = inl refl
@@ -39,6 +40,23 @@ floor-heard i b f (x ∷ es) =
       ]
     ]
 
+-- and leaves the order
+above-heard : (a b f : ℕ) (es : List Entry) → above a (heard b f es) ≡ above a es
+above-heard a b f [] = refl
+above-heard a b f (x ∷ es) = go (eqb (x .boat .0) b)
+  where
+    go : (t : Bool) → above a (cond t (entry (x .boat .0) (max (x .floor .0) f) ∷ es) (x ∷ heard b f es)) ≡ ltb a (x .boat .0)
+    go true = refl
+    go false = refl
+
+pub ascending-heard : (b f : ℕ) (es : List Entry) → ascending (heard b f es) ≡ ascending es
+ascending-heard b f [] = refl
+ascending-heard b f (x ∷ es) = go (eqb (x .boat .0) b) (ascending-heard b f es)
+  where
+    go : (t : Bool) → ascending (heard b f es) ≡ ascending es → ascending (cond t (entry (x .boat .0) (max (x .floor .0) f) ∷ es) (x ∷ heard b f es)) ≡ above (x .boat .0) es && ascending es
+    go true r = refl
+    go false r = ap (λ t. t && ascending (heard b f es)) (above-heard (x .boat .0) b f es) ∙ ap (λ t. above (x .boat .0) es && t) r
+
 -- a boat more is known with floor 1, and nothing else of any other
 pub floor-entered : (i b : ℕ) (es : List Entry) → floorOf i (entered b es) ≡ cond (eqb b i) (Some 1) (floorOf i es)
 floor-entered i b [] = refl
@@ -51,6 +69,28 @@ floor-entered i b (x ∷ es) =
       ]
       | inr t ↦ simp t
     ]
+
+above-entered : (a b : ℕ) (es : List Entry) → a < b → above a es ≡ true → above a (entered b es) ≡ true
+above-entered a b [] l h = lt-ltb a b l
+above-entered a b (x ∷ es) l h = go (ltb (x .boat .0) b)
+  where
+    go : (t : Bool) → above a (cond t (x ∷ entered b es) (entry b 1 ∷ x ∷ es)) ≡ true
+    go true = h
+    go false = lt-ltb a b l
+
+pub ascending-entered : (b : ℕ) (es : List Entry) → floorOf b es ≡ None → ascending es ≡ true → ascending (entered b es) ≡ true
+ascending-entered b [] n a = refl
+ascending-entered b (x ∷ es) n a =
+    let p : (above (x .boat .0) es ≡ true) × (ascending es ≡ true) = and-parts (above (x .boat .0) es) (ascending es) a in
+    let d : eqb (x .boat .0) b ≡ false = apart (eqb (x .boat .0) b) (x .floor .0) (floorOf b es) n in
+    elim (both (ltb (x .boat .0) b)) [
+      | inl t ↦ ap ascending (cond-true _ _ _ t) ∙ and-from _ _ (above-entered (x .boat .0) b es (grind (arith, tells)) (p .0)) (ascending-entered b es (sym (cond-false _ _ _ d) ∙ n) (p .1))
+      | inr t ↦ ap ascending (cond-false _ _ _ t) ∙ and-from _ _ (let l : ltb b (x .boat .0) ≡ true = grind (arith, tells) in l) a
+    ]
+  where
+    apart : (t : Bool) (f : ℕ) (o : Option ℕ) → cond t (Some f) o ≡ None → t ≡ false
+    apart true f o h = cc
+    apart false f o h = refl
 
 -- where nobody lacks a level, each on the list has promised it
 pub none-lacks : (k b f : ℕ) (es : List Entry) → lacking k es ≡ None → floorOf b es ≡ Some f → k ≤ f
@@ -72,3 +112,56 @@ none-is (Some x) h = let z : _≡_ {A = ℕ} 0 1 = cc in absurd (omega arith)
 pub some-is : (o : Option ℕ) → isSome o ≡ true → (f : ℕ) × (o ≡ Some f)
 some-is None h = let z : _≡_ {A = ℕ} 0 1 = cc in absurd (omega arith)
 some-is (Some f) h = (f, refl)
+
+-- each of the entries is what a list knows of its boat
+abbrev pub Known : List Entry → List Entry → Type 0
+Known list [] = Unit {0}
+Known list (e ∷ es) = (floorOf (e .boat .0) list ≡ Some (e .floor .0)) × Known list es
+
+pub floor-tail : (j : ℕ) (e : Entry) (es : List Entry) → (j ≡ e .boat .0 → ⊥) → floorOf j (e ∷ es) ≡ floorOf j es
+floor-tail j e es d = cond-false (eqb (e .boat .0) j) (Some (e .floor .0)) (floorOf j es) (ne-eqb (e .boat .0) j (λ q. d (sym q)))
+
+above-lower : (a : ℕ) (e : Entry) (es : List Entry) → ltb a (e .boat .0) ≡ true → above (e .boat .0) es ≡ true → above a es ≡ true
+above-lower a e [] l h = refl
+above-lower a e (x ∷ es) l h = grind (arith, tells)
+
+-- what changes for one boat changes nothing for those that come after it
+pub known-past : (b : ℕ) (old new es : List Entry) → above b es ≡ true → ascending es ≡ true → ((j : ℕ) → (j ≡ b → ⊥) → floorOf j new ≡ floorOf j old) → Known old es → Known new es
+known-past b old new [] h a same known = tt
+known-past b old new (e ∷ es) h a same known =
+    let p : (above (e .boat .0) es ≡ true) × (ascending es ≡ true) = and-parts (above (e .boat .0) es) (ascending es) a in
+    let l : b < e .boat .0 = ltb-true b (e .boat .0) h in
+    (same (e .boat .0) (λ q. (omega arith)) ∙ known .0, known-past b old new es (above-lower b e es h (p .0)) (p .1) same (known .1))
+
+pub known-all : (es : List Entry) → ascending es ≡ true → Known es es
+known-all [] a = tt
+known-all (e ∷ es) a =
+    let p : (above (e .boat .0) es ≡ true) × (ascending es ≡ true) = and-parts (above (e .boat .0) es) (ascending es) a in
+    (cond-true (eqb (e .boat .0) (e .boat .0)) (Some (e .floor .0)) (floorOf (e .boat .0) es) (eq-eqb _ _ refl), known-past (e .boat .0) es (e ∷ es) es (p .0) (p .1) (λ j d. floor-tail j e es d) (known-all es (p .1)))
+
+-- nobody lacks a level that each has promised
+pub lacks-none : (k : ℕ) (list es : List Entry) → Known list es → ((j f : ℕ) → floorOf j list ≡ Some f → k ≤ f) → lacking k es ≡ None
+lacks-none k list [] known h = refl
+lacks-none k list (e ∷ es) known h = cond-false (ltb (e .floor .0) k) (Some (e .boat .0)) (lacking k es) (le-ltb (e .floor .0) k (h (e .boat .0) (e .floor .0) (known .0))) ∙ lacks-none k list es (known .1) h
+
+-- hearing leaves the numbers, and who is on the list is said by these
+pub numbers-heard : (b f : ℕ) (es : List Entry) → numbersOf (heard b f es) ≡ numbersOf es
+numbers-heard b f [] = refl
+numbers-heard b f (x ∷ es) = go (eqb (x .boat .0) b) (numbers-heard b f es)
+  where
+    go : (t : Bool) → numbersOf (heard b f es) ≡ numbersOf es → numbersOf (cond t (entry (x .boat .0) (max (x .floor .0) f) ∷ es) (x ∷ heard b f es)) ≡ x .boat .0 ∷ numbersOf es
+    go true r = refl
+    go false r = ap (λ ns. x .boat .0 ∷ ns) r
+
+pub listed-same : (j : ℕ) (xs ys : List Entry) → numbersOf xs ≡ numbersOf ys → isSome (floorOf j xs) ≡ isSome (floorOf j ys)
+listed-same j [] [] q = refl
+listed-same j [] (y ∷ ys) q = let z : _≡_ {A = ℕ} 0 1 = cc in absurd (omega arith)
+listed-same j (x ∷ xs) [] q = let z : _≡_ {A = ℕ} 0 1 = cc in absurd (omega arith)
+listed-same j (x ∷ xs) (y ∷ ys) q =
+    let e : x .boat .0 ≡ y .boat .0 = cc in
+    let r : numbersOf xs ≡ numbersOf ys = cc in
+    ap (λ n. isSome (cond (eqb n j) (Some (x .floor .0)) (floorOf j xs))) e ∙ go (eqb (y .boat .0) j) (listed-same j xs ys r)
+  where
+    go : (t : Bool) → isSome (floorOf j xs) ≡ isSome (floorOf j ys) → isSome (cond t (Some (x .floor .0)) (floorOf j xs)) ≡ isSome (cond t (Some (y .floor .0)) (floorOf j ys))
+    go true s = refl
+    go false s = s

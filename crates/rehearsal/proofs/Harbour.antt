@@ -19,7 +19,7 @@ use Rattle.levels.specs.declared.ledger.Entry.{Entry}
 use Rattle.levels.specs.Verdicts.{Verdict, Number, Bad}
 use Rattle.levels.specs.Rules.{Boat}
 use Rattle.levels.specs.Standings.{raised}
-use Rattle.levels.specs.Entries.{floorOf, entered, heard, lacking}
+use Rattle.levels.specs.Entries.{floorOf, ascending, entered, heard, lacking}
 use Rattle.levels.specs.Ledgers.{Book, answering, listing, unpromised}
 use Rattle.protocol.specs.Order.{numbers, higher}
 use Rattle.protocol.specs.Fleet.{Machine, put, Step, Later, now, next, hears, confirms, lists, decides, announces, learns, answers}
@@ -32,7 +32,7 @@ use Rattle.rehearsal.specs.Worlds.{World, BoatState, placeOf, stateAt, moored,
 use Rattle.rehearsal.specs.Worlds as spec
 use Rattle.rehearsal.specs.Abstract.{boatOf, heardOf, machineOf, noticeOf, abs}
 use Rattle.rehearsal.proofs.Abs.{higher-max, boat-moored}
-use Rattle.rehearsal.proofs.Books.{both, raisedBy, floor-heard, floor-entered, none-lacks, none-is, some-is}
+use Rattle.rehearsal.proofs.Books.{both, raisedBy, floor-heard, ascending-heard, floor-entered, ascending-entered, none-lacks, none-is, some-is}
 use Rattle.rehearsal.proofs.Sent.{mem-at, mem-back}
 use Rattle.rehearsal.proofs.Ruled.{Ruled, promises-of-numbers, Made, made-at, made-if, boat-is, ruled-moored, ruled-noticed, same-machine}
 
@@ -65,8 +65,8 @@ ruled-learned w b i k r e h =
     ruled-noticed (moored w i s) _ m (answers (abs (m .crew) (moored w i s)) b (max (stateAt w i .standing .level) k) (omega (arith, ap (λ (x : BoatState). x .standing .level) p)))
 
 -- the ledger is another, which knows of each boat no less, and of the same boats
-ruled-booked : (w : World) (x : Book) (r : Ruled w) → ((j : ℕ) → isSome (floorOf j (x .list)) ≡ isSome (floorOf j (w .harbour .list))) → ((j : ℕ) → heardOf w j ≤ heardOf (booked w x) j) → fleet.Reach numbers (abs (r .crew) (booked w x)) → Ruled (booked w x)
-ruled-booked w x r same up reached =
+ruled-booked : (w : World) (x : Book) (r : Ruled w) → ((j : ℕ) → isSome (floorOf j (x .list)) ≡ isSome (floorOf j (w .harbour .list))) → ((j : ℕ) → heardOf w j ≤ heardOf (booked w x) j) → fleet.Reach numbers (abs (r .crew) (booked w x)) → ascending (x .list) ≡ true → Ruled (booked w x)
+ruled-booked w x r same up reached sorted =
     record {
       crew = r .crew;
       on = λ j at. same j ∙ r .on j at;
@@ -74,6 +74,8 @@ ruled-booked w x r same up reached =
       reach = reached;
       answered = λ j a. omega (arith, r .answered j a, up j);
       formed = r .formed;
+      there = λ j on. r .there j (sym (same j) ∙ on);
+      sorted = sorted;
     }
 
 -- the harbour hears a promise of a boat of its list
@@ -103,7 +105,7 @@ module _ (w : World) (b f : ℕ) where
       let same : abs (r .crew) (booked w noted) ≡ fleet.heardOf numbers (abs (r .crew) w) b f = ap F (fun-ext (heard-put g e)) in
       let s : Step numbers (abs (r .crew) w) (fleet.heardOf numbers (abs (r .crew) w) b f) = hears (abs (r .crew) w) b f h in
       let up = promises-of-numbers .grows (abs (r .crew) w) (fleet.heardOf numbers (abs (r .crew) w) b f) (next now s) in
-      ruled-booked w noted r same-boats (λ j. omega (arith, up .heard j, heard-put g e j)) (subst (fleet.Reach numbers) (sym same) (fleet.then (r .reach) s))
+      ruled-booked w noted r same-boats (λ j. omega (arith, up .heard j, heard-put g e j)) (subst (fleet.Reach numbers) (sym same) (fleet.then (r .reach) s)) (ascending-heard b f (w .harbour .list) ∙ r .sorted)
 
   made-confirmed : (o : Option ℕ) (r : Ruled w) → floorOf b (w .harbour .list) ≡ o → f ≤ boatOf w b .standing .floor → Made Ruled (confirmed w b (answering (w .harbour) b f o))
   made-confirmed None r e h = tt
@@ -134,7 +136,7 @@ ruled-said : (w : World) (k : ℕ) (r : Ruled w) → lacking k (w .harbour .list
 ruled-said w k r n =
     let x : Book = record { list = w .harbour .list; said = max (w .harbour .said) k } in
     let F : ℕ → fleet.World ℕ = λ s. record { machine = abs (r .crew) w .machine; listed = r .crew; heard = heardOf w; said = s; words = abs (r .crew) w .words; notices = abs (r .crew) w .notices } in
-    ruled-booked w x r (λ j. refl) (λ j. omega arith) (subst (λ (s : ℕ). fleet.Reach numbers (F s)) (sym (higher-max (w .harbour .said) k)) (fleet.then (r .reach) (decides (abs (r .crew) w) k (λ j at. promised j (some-is (floorOf j (w .harbour .list)) (r .on j at))))))
+    ruled-booked w x r (λ j. refl) (λ j. omega arith) (subst (λ (s : ℕ). fleet.Reach numbers (F s)) (sym (higher-max (w .harbour .said) k)) (fleet.then (r .reach) (decides (abs (r .crew) w) k (λ j at. promised j (some-is (floorOf j (w .harbour .list)) (r .on j at)))))) (r .sorted)
   where
     promised : (j : ℕ) → ((f : ℕ) × (floorOf j (w .harbour .list) ≡ Some f)) → k ≤ heardOf w j
     promised j p = omega (arith, none-lacks k j (p .0) (w .harbour .list) n (p .1), ap (λ o. valueOr o 1) (p .1))
@@ -164,8 +166,8 @@ module _ (w : World) (b : ℕ) (none : floorOf b (w .harbour .list) ≡ None) wh
         | inr t ↦ ap V (cond-false _ _ _ t)
       ]
 
-  ruled-more : (r : Ruled w) → w .harbour .said ≤ 1 → Ruled (booked w more)
-  ruled-more r h =
+  ruled-more : (i : ℕ) (r : Ruled w) → placeOf w b ≡ Some i → w .harbour .said ≤ 1 → Ruled (booked w more)
+  ruled-more i r here h =
       let F : (ℕ → ℕ) → fleet.World ℕ = λ m. record { machine = abs (r .crew) w .machine; listed = b ∷ r .crew; heard = m; said = w .harbour .said; words = abs (r .crew) w .words; notices = abs (r .crew) w .notices } in
       let s : Step numbers (abs (r .crew) w) (fleet.enlisted (abs (r .crew) w) b) = lists (abs (r .crew) w) b (omega (arith, ap (λ o. valueOr o 1) none)) in
       record {
@@ -175,8 +177,16 @@ module _ (w : World) (b : ℕ) (none : floorOf b (w .harbour .list) ≡ None) wh
         reach = subst (fleet.Reach numbers) (sym (ap F (fun-ext heard-same))) (fleet.then (r .reach) s);
         answered = λ j a. omega (arith, r .answered j a, heard-same j);
         formed = r .formed;
+        there = λ j on. somewhere j (sym (ap isSome (floor-entered j b (w .harbour .list))) ∙ on) (r .there j);
+        sorted = ascending-entered b (w .harbour .list) none (r .sorted);
       }
     where
+      somewhere : (j : ℕ) → isSome (cond (eqb b j) (Some 1) (floorOf j (w .harbour .list))) ≡ true → (isSome (floorOf j (w .harbour .list)) ≡ true → isSome (placeOf w j) ≡ true) → isSome (placeOf w j) ≡ true
+      somewhere j h f = elim (both (eqb b j)) [
+        | inl t ↦ ap (λ n. isSome (placeOf w n)) (sym (eqb-true b j t)) ∙ ap isSome here
+        | inr t ↦ f (sym (ap isSome (cond-false (eqb b j) (Some 1) (floorOf j (w .harbour .list)) t)) ∙ h)
+      ]
+
       onto : (j : ℕ) {crew : List ℕ} → (j ≡ b) ⊎ List·Memᴰ j crew → (List·Memᴰ j crew → isSome (floorOf j (w .harbour .list)) ≡ true) → isSome (cond (eqb b j) (Some 1) (floorOf j (w .harbour .list))) ≡ true
       onto j (inl e) f = ap isSome (cond-true (eqb b j) (Some 1) (floorOf j (w .harbour .list)) (eq-eqb b j (sym e)))
       onto j (inr m) f = cond-both (eqb b j) (Some 1) (floorOf j (w .harbour .list)) (λ o. isSome o ≡ true) (λ _. refl) (λ _. f m)
@@ -188,10 +198,10 @@ module _ (w : World) (b : ℕ) (none : floorOf b (w .harbour .list) ≡ None) wh
       ]
 
 pub made-enlisting : (w : World) (b : ℕ) → Ruled w → Made Ruled (spec.enlisting w b)
-made-enlisting w b r = made-at Ruled (placeOf w b) (λ i. spec.enlisted w (listing (w .harbour) b)) (λ i e. go)
+made-enlisting w b r = made-at Ruled (placeOf w b) (λ i. spec.enlisted w (listing (w .harbour) b)) (λ i e. go i e)
   where
-    go : Made Ruled (spec.enlisted w (listing (w .harbour) b))
-    go =
+    go : (i : ℕ) → placeOf w b ≡ Some i → Made Ruled (spec.enlisted w (listing (w .harbour) b))
+    go i e =
         let P : Result Book Verdict → Type 0 = λ x. Made Ruled (spec.enlisted w x) in
         let full : Result Book Verdict = cond (leb 4096 (length (w .harbour .list))) (Err (Number 6)) (Ok (record { list = entered b (w .harbour .list); said = w .harbour .said })) in
         let said : Result Book Verdict = cond (ltb 1 (w .harbour .said)) (Err (Number 4)) full in
@@ -199,4 +209,4 @@ made-enlisting w b r = made-at Ruled (placeOf w b) (λ i. spec.enlisted w (listi
         (λ _. cond-both (isSome (floorOf b (w .harbour .list))) (Ok (w .harbour)) said P (λ _. r)
         (λ t. cond-both (ltb 1 (w .harbour .said)) (Err (Number 4)) full P (λ _. tt)
         (λ u. cond-both (leb 4096 (length (w .harbour .list))) (Err (Number 6)) (Ok (record { list = entered b (w .harbour .list); said = w .harbour .said })) P (λ _. tt)
-        (λ _. ruled-more w b (none-is (floorOf b (w .harbour .list)) t) r (ltb-false 1 (w .harbour .said) u)))))
+        (λ _. ruled-more w b (none-is (floorOf b (w .harbour .list)) t) i r e (ltb-false 1 (w .harbour .said) u)))))

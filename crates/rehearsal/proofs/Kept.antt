@@ -58,6 +58,8 @@ ruled-start n =
       reach = subst (fleet.Reach numbers) (sym (ap F (fun-ext (λ b. ap M (start-boat n b))))) (fleet.begin []);
       answered = λ j a. absurd (never (sym (ap (λ (s : BoatState). s .answered) (start-boat n j)) ∙ a));
       formed = λ x at. absurd (List·Memᴰ·not-nil at);
+      there = λ j h. no h;
+      sorted = refl;
     }
   where
     never : false ≡ true → ⊥
@@ -85,7 +87,7 @@ ruled-after : (w : World) (x : Result World Verdict) → Ruled w → Made Ruled 
 ruled-after w (Ok v) r m = m
 ruled-after w (Err e) r m = r
 
-ruled-plays : (w : World) (es : List Event) → Ruled w → Ruled (plays w es)
+pub ruled-plays : (w : World) (es : List Event) → Ruled w → Ruled (plays w es)
 ruled-plays w [] r = r
 ruled-plays w (e ∷ es) r = ruled-plays (after w (play w e)) es (ruled-after w (play w e) r (made-play w e r))
 
@@ -161,7 +163,7 @@ pub run-promises : RunPromises
 run-promises n es = promises (run n es) (ruled-plays (start n) es (ruled-start n))
 
 -- a call carries on what events have made
-plays-push : (w : World) (es : List Event) (e : Event) → plays w (es ++ e ∷ []) ≡ after (plays w es) (play (plays w es) e)
+pub plays-push : (w : World) (es : List Event) (e : Event) → plays w (es ++ e ∷ []) ≡ after (plays w es) (play (plays w es) e)
 plays-push w [] e = refl
 plays-push w (x ∷ es) e = plays-push (after w (play w x)) es e
 

@@ -18,7 +18,7 @@ use Rattle.levels.specs.Verdicts.{Verdict, Number, Bad}
 use Rattle.levels.specs.Rules.{Boat, reads, sayForm}
 use Rattle.levels.specs.Standings.{first, running, renewed, goneBack, raised}
 use Rattle.levels.specs.Standings as boat
-use Rattle.levels.specs.Entries.{floorOf}
+use Rattle.levels.specs.Entries.{floorOf, ascending}
 use Rattle.protocol.specs.Order.{numbers, higher}
 use Rattle.protocol.specs.Fleet.{Machine, put, Step, Later, now, next, renews, goesBack, promises, tells, learns, answers, talks}
 use Rattle.protocol.specs.Fleet as fleet
@@ -37,7 +37,8 @@ use Rattle.rehearsal.specs.Abstract as abstract
 use Rattle.rehearsal.proofs.Sent.{mem-push}
 use Rattle.rehearsal.proofs.Abs.{higher-max, place-moored, boat-moored, abs-moored, abs-noticed, abs-spoken}
 
--- crew: who is on the list, in the order of coming onto it. A floor that was answered is in the ledger, and words are in forms that there are
+-- crew: who is on the list, in the order of coming onto it. A floor that was answered is in the ledger, words are in forms that there are,
+-- and there is every boat that is on the list, which stands there once
 pub record Ruled (w : World) : Type 0 where
   pub crew : List ℕ
   pub on : (j : ℕ) → List·Memᴰ j crew → isSome (floorOf j (w .harbour .list)) ≡ true
@@ -45,6 +46,8 @@ pub record Ruled (w : World) : Type 0 where
   pub reach : fleet.Reach numbers (abs crew w)
   pub answered : (j : ℕ) → boatOf w j .answered ≡ true → boatOf w j .standing .floor ≤ heardOf w j
   pub formed : (x : Word) → List·Memᴰ x (w .words) → (1 ≤ x .form .0) × (x .form .0 ≤ 3)
+  pub there : (j : ℕ) → isSome (floorOf j (w .harbour .list)) ≡ true → isSome (placeOf w j) ≡ true
+  pub sorted : ascending (w .harbour .list) ≡ true
 
 pub promises-of-numbers : promise.Promises numbers
 promises-of-numbers = always numbers numbers-lawful
@@ -76,12 +79,14 @@ ruled-moored w b i s r e l a =
       reach = subst (fleet.Reach numbers) (sym (abs-moored (r .crew) w b i s e)) (reach-later numbers numbers-lawful (r .reach) l);
       answered = λ j. subst (λ (x : BoatState). x .answered ≡ true → x .standing .floor ≤ heardOf w j) (sym (boat-moored w b i s e j)) (put-each (λ k (x : BoatState). x .answered ≡ true → x .standing .floor ≤ heardOf w k) b s (boatOf w) a (r .answered) j);
       formed = r .formed;
+      there = λ j on. ap isSome (place-moored w i s j) ∙ r .there j on;
+      sorted = r .sorted;
     }
 
 -- a notice was sent
 pub ruled-noticed : (w : World) (n : Notice) (r : Ruled w) → Step numbers (abs (r .crew) w) (fleet.noticed (abs (r .crew) w) (noticeOf n)) → Ruled (noticed w n)
 ruled-noticed w n r s =
-    record { crew = r .crew; on = r .on; all = r .all; reach = subst (fleet.Reach numbers) (sym (abs-noticed (r .crew) w n)) (fleet.then (r .reach) s); answered = r .answered; formed = r .formed }
+    record { crew = r .crew; on = r .on; all = r .all; reach = subst (fleet.Reach numbers) (sym (abs-noticed (r .crew) w n)) (fleet.then (r .reach) s); answered = r .answered; formed = r .formed; there = r .there; sorted = r .sorted }
 
 -- a program begins
 pub ruled-opening : (w : World) (b i : ℕ) (s : Boat) (r : Ruled w) → placeOf w b ≡ Some i → Later numbers (abs (r .crew) w) (fleet.machined (abs (r .crew) w) b (machineOf s)) → Ruled (opening w i b s)
@@ -175,6 +180,8 @@ ruled-spoken w x r h =
       reach = subst (fleet.Reach numbers) (sym (abs-spoken (r .crew) w x)) (fleet.then (r .reach) (talks (abs (r .crew) w) (abstract.wordOf x) (h .0)));
       answered = r .answered;
       formed = λ y at. go y (mem-push x y (w .words) at);
+      there = r .there;
+      sorted = r .sorted;
     }
   where
     go : (y : Word) → List·Memᴰ y (w .words) ⊎ (y ≡ x) → (1 ≤ y .form .0) × (y .form .0 ≤ 3)

@@ -4,6 +4,7 @@ ghost use Rattle.rehearsal.specs.Promises.{Reached};
 use crate::fleet::Fleet;
 
 mod plays;
+mod rising;
 
 // There are events that have made the fleet what it is, from the start.
 #[derive(Drop)]

@@ -2,7 +2,7 @@
 ghost use mathlib.Core.Path.{_≡_};
 ghost use Rattle.levels.specs.Entries.{Placed, floorOf, lacking};
 ghost use Rattle.levels.specs.Ledgers.{entries, book, blank, listing, hearing, saying, floorNumber, floorIn, boatIn};
-ghost use Rattle.levels.specs.Verdicts.{Does, Replies, Tries};
+ghost use Rattle.levels.specs.Verdicts.{Does, Judges, Replies, Tries};
 use super::Entry;
 use super::Ledger;
 use crate::numbers::BoatId;
@@ -125,9 +125,9 @@ impl Ledger {
         found
     }
 
-    // Says a level that every boat of the list has promised. Of an empty list nobody has promised anything.
-    pub fn say(&mut self, level: Level) -> Result<(), Refusal>
-        ensures { λ r. ⌜ Does (saying (book (now (self .entry))) (level .0)) r (book (now (self .entry))) (book (now (self .exit))) ⌝ }
+    // May a level be said? Every boat of the list has to have promised it, and of an empty list nobody has promised anything.
+    pub fn may_say(&self, level: Level) -> Result<(), Refusal>
+        ensures { λ r. ⌜ Judges (saying (book (now (self .entry))) (level .0)) r ⌝ }
     {
         if level.0 == 0 {
             return Err(Refusal::Invalid);
@@ -138,6 +138,14 @@ impl Ledger {
         if self.first_without(level).is_some() {
             return Err(Refusal::NotPromised);
         }
+        Ok(())
+    }
+
+    // Says a level that may be said: the highest counts.
+    pub fn say(&mut self, level: Level) -> Result<(), Refusal>
+        ensures { λ r. ⌜ Does (saying (book (now (self .entry))) (level .0)) r (book (now (self .entry))) (book (now (self .exit))) ⌝ }
+    {
+        self.may_say(level)?;
         if self.said < level {
             self.said = level;
         }

@@ -191,6 +191,9 @@ impl Fleet {
     fn confirm(&mut self, from: BoatId, floor: Program) -> Result<(), Refusal>
         ensures { λ r. ⌜ Tries (spec.hearingNotice (world (now (self .entry))) (Promised from floor)) r (world (now (self .entry))) (world (now (self .exit))) ⌝ }
     {
+        if self.harbour.floor_of(from).is_none() {
+            return Err(Refusal::NotListed);
+        }
         self.notices.reserve(1)?;
         let floor = self.harbour.hear(from, floor)?;
         self.notices
@@ -277,6 +280,7 @@ impl Fleet {
     fn announce(&mut self, level: Level) -> Result<(), Refusal>
         ensures { λ r. ⌜ Tries (spec.announcing (world (now (self .entry))) (level .0)) r (world (now (self .entry))) (world (now (self .exit))) ⌝ }
     {
+        self.harbour.may_say(level)?;
         self.notices.reserve(self.harbour.boats().len())?;
         self.harbour.say(level)?;
         tell_each(&mut self.notices, self.harbour.boats(), level);

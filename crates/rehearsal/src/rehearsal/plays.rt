@@ -7,6 +7,7 @@ ghost use Rattle.rehearsal.specs.Worlds.{world, states};
 ghost use Rattle.rehearsal.specs.Worlds as spec;
 ghost use Rattle.rehearsal.specs.Rehearsals.{Began};
 ghost use Rattle.rehearsal.specs.Promises.{Promises, RunPromises};
+ghost use Rattle.rehearsal.specs.Rising.{RunRises};
 use super::Rehearsal;
 use crate::events::Event;
 use crate::fleet::Fleet;
@@ -66,6 +67,13 @@ impl Rehearsal {
 // After every list of events from the start all is as promised.
 pub fn promises_stand() -> u8
     ensures { λ _. ⌜ RunPromises ⌝ }
+{
+    0
+}
+
+// After every list of events from the start, a level that the programs of the list allow can rise.
+pub fn rising_stands() -> u8
+    ensures { λ _. ⌜ RunRises ⌝ }
 {
     0
 }

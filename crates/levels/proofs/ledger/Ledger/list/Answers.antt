@@ -16,7 +16,7 @@ use Rattle.levels.specs.declared.ledger.Entry.{Entry}
 use Rattle.levels.specs.Entries.{entered, floorOf}
 use Rattle.levels.specs.Ledgers.{Book, entries, book, listing}
 use Rattle.levels.specs.Verdicts.{Verdict, Number}
-use Rattle.levels.proofs.Searches.{absent, found, entered-at, ascending-tried}
+use Rattle.levels.proofs.Searches.{absent, found, entered-at, ascending-tried, listing-new}
 use Rattle.levels.proofs.ledger.Ledger.list.Needs as need
 
 pub returns-in-rest : need.returns-in-rest
@@ -44,14 +44,17 @@ ghost-self c =
 
 pub returns-in-Break-insert : need.returns-in-Break-insert
 returns-in-Break-insert c =
+    let h = c .in-Err .ensures tt in
+    let es : List Entry = entries (c .args .self .now) in
+    let n = absent (c .args .boat .0) es (c .in-Err .i) (c .args .self .now .sorted) (h .0) (h .1) (h .2) in
     let p = err-from-errBy (c .from-residual .result) (c .from-residual .ensures .1) in
     let F : List Entry → Book = λ l. record { list = l; said = c .args .self .now .said .0 } in
-    rw (p .1, p .2) (tt, ap F (c .in-Break-insert .ensures tt .items))
+    rw (p .1, p .2) (ap isOk (listing-new (book (c .args .self .now)) (c .args .boat .0) (search needs) n (search needs) (search needs)), ap F (c .in-Break-insert .ensures tt .items))
 
 pub returns : need.returns
 returns c =
     let h = c .in-Err .ensures tt in
     let es : List Entry = entries (c .args .self .now) in
-    let n = ap isSome (absent (c .args .boat .0) es (c .in-Err .i) (c .args .self .now .sorted) (h .0) (h .1) (h .2)) in
+    let n = absent (c .args .boat .0) es (c .in-Err .i) (c .args .self .now .sorted) (h .0) (h .1) (h .2) in
     let F : List Entry → Result Book Verdict = λ l. Ok (record { list = l; said = c .args .self .now .said .0 }) in
-    cond-false _ _ _ (ne-eqb (c .args .boat .0) 0 (search needs)) ∙ cond-false _ _ _ n ∙ cond-false _ _ _ (le-ltb 1 (c .args .self .now .said .0) (search needs)) ∙ cond-false _ _ _ (lt-leb 4096 (length es) (search needs)) ∙ ap F (sym (c .in-Continue-insert .ensures tt .items ∙ entered-at (c .args .boat .0) es (c .in-Err .i) (h .0) (h .1) (h .2)))
+    listing-new (book (c .args .self .now)) (c .args .boat .0) (search needs) n (search needs) (search needs) ∙ ap F (sym (c .in-Continue-insert .ensures tt .items ∙ entered-at (c .args .boat .0) es (c .in-Err .i) (h .0) (h .1) (h .2)))
