@@ -111,6 +111,14 @@ impl Text {
         }
     }
 
+    // Is it a boat's word to the harbour that it has a level?
+    pub(crate) fn is_has_it(self) -> bool {
+        match self.fact {
+            Fact::HasIt => true,
+            _ => false,
+        }
+    }
+
     // What a notice says.
     pub(crate) fn of_notice(notice: Notice) -> Text {
         match notice {

@@ -25,7 +25,6 @@ pub enum Fault {
     NeverSent,
     Lost,
     NoSense,
-    NoRaise,
     // a refusal
     NotReadable,
     OlderNumber,
@@ -60,7 +59,6 @@ impl Fault {
             Fault::NeverSent => "never sent",
             Fault::Lost => "lost",
             Fault::NoSense => "no sense",
-            Fault::NoRaise => "raise is not there yet",
             Fault::NotReadable => "not readable",
             Fault::OlderNumber => "an older number",
             Fault::BelowFloor => "below its floor",

@@ -13,6 +13,7 @@ use crate::steps::StepDisplay;
 use levels::numbers::BoatId;
 use levels::numbers::Level;
 use levels::refusals::Refusal;
+use levels::refusals::RefusalPartialEq;
 use levels::standing::Standing;
 use rehearsal::events::Event;
 use rehearsal::rehearsal::Rehearsal;
@@ -38,6 +39,7 @@ pub enum Fate {
 // The rehearsal, the fates that wait for the next messages, and the fate of each word and each notice so far.
 #[derive(Drop)]
 pub struct Player {
+    heap: Global,
     rehearsal: Rehearsal,
     ahead: VecDeque<Fate>,
     words: Vec<Fate>,
@@ -54,6 +56,7 @@ impl Player {
             })?;
         }
         Ok(Player {
+            heap,
             rehearsal,
             ahead: VecDeque::new(heap),
             words: Vec::new(heap),
@@ -99,9 +102,30 @@ impl Player {
         }
     }
 
-    // The fleet is brought to a level.
-    fn raise(&mut self, _level: Level) -> Answer {
-        Answer::Bad(Reason::Fault(Fault::NoRaise))
+    // The first boat whose program is too old for a level.
+    fn first_outdated(&self, level: Level) -> Option<BoatId> {
+        for listed in self.rehearsal.harbour().boats() {
+            if let Some(standing) = self.standing(listed.boat) {
+                if standing.program.0 < level.0 {
+                    return Some(listed.boat);
+                }
+            }
+        }
+        None
+    }
+
+    // The whole fleet is brought to a level.
+    fn raise(&mut self, level: Level) -> Answer {
+        let Err(refusal) = self.rehearsal.raise(self.heap, level) else {
+            return Answer::Done;
+        };
+        match self.first_outdated(level) {
+            Some(boat) if refusal == Refusal::NotPromised => Answer::No(
+                4,
+                Reason::NotPromised(boat),
+            ),
+            _ => self.refused(Event::Announce { level }, refusal),
+        }
     }
 
     // A fate more waits for the messages to be sent.
@@ -150,17 +174,11 @@ impl Player {
     }
 
     // Plays so many steps, drawn from a seed.
-    pub(crate) fn draw(
-        &mut self,
-        heap: Global,
-        seed: u64,
-        count: u64,
-        out: &mut Output,
-    ) -> io::Result<()> {
+    pub(crate) fn draw(&mut self, seed: u64, count: u64, out: &mut Output) -> io::Result<()> {
         let mut draws = Draws::new(seed);
         for _ in 0..count {
             let step = draws.step(self.scene());
-            let echo = format!(heap, "{step}")?;
+            let echo = format!(self.heap, "{step}")?;
             self.step(step, echo.as_str(), out)?;
         }
         Ok(())

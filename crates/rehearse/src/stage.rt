@@ -71,7 +71,7 @@ impl Stage {
             return self.bad(echo, Fault::NoBoatsYet);
         };
         writeln!(self.out, "{echo}: ok")?;
-        player.draw(self.heap, seed, count, &mut self.out)
+        player.draw(seed, count, &mut self.out)
     }
 
     // Prints the table.

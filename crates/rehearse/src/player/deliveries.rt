@@ -63,14 +63,19 @@ impl Player {
         Ok(())
     }
 
-    // Prints what was sent and has come already.
+    // Prints what a rise has sent. All of it has come already but what the boats said last, that they have the level: that comes now.
     pub(super) fn show_brought(&mut self, out: &mut Output) -> io::Result<()> {
         for _ in 0..u64::MAX {
             let Some((message, text)) = self.next_sent() else {
                 break;
             };
             self.note(message, Fate::Comes)?;
-            writeln!(out, "  {message} {text}: ok")?;
+            let answer = if text.is_has_it() {
+                self.play(message.coming())
+            } else {
+                Answer::Done
+            };
+            writeln!(out, "  {message} {text}: {answer}")?;
         }
         Ok(())
     }
