@@ -1,11 +1,10 @@
 // What is printed of a step and of a message.
 use crate::faults::Fault;
 use levels::numbers::BoatId;
-use levels::numbers::FormNumber;
 use levels::numbers::Level;
 use levels::numbers::Program;
 use rehearsal::messages::Notice;
-use rehearsal::messages::Word;
+use rehearsal::messages::Sent;
 use std::fmt;
 use std::io::BufWriter;
 use std::io::Stdout;
@@ -101,11 +100,11 @@ pub struct Text {
 }
 
 impl Text {
-    // What a word says, as far as it is played: its form.
-    pub(crate) fn of_word(word: Word) -> Text {
+    // What is told of a word: its form. `show` has the rest.
+    pub(crate) fn of_word(word: Sent) -> Text {
         Text {
             fact: Fact::Form,
-            number: word.form.0 as u32,
+            number: word.spoken.form().0 as u32,
             from: word.from.0,
             to: word.to.0,
         }

@@ -1,12 +1,14 @@
 // Reading a line of the script.
-ghost use Prim.Native.Nat.{_≤_};
+ghost use Prim.Native.Nat.{_≤_, _<_};
+ghost use lib.ListN.{length};
 ghost use Rattle.std.specs.Options.{Cases as BySome};
 ghost use Rattle.std.specs.Results.{Cases};
 use crate::faults::Fault;
 use crate::steps::Message;
 use crate::steps::Step;
+use forms::name::Name;
+use forms::word::Spoken;
 use levels::numbers::BoatId;
-use levels::numbers::FormNumber;
 use levels::numbers::Level;
 use levels::numbers::Program;
 
@@ -35,6 +37,7 @@ enum Deed {
     Tick,
     Cut,
     Say,
+    Show,
 }
 
 // The first word of a step.
@@ -64,6 +67,7 @@ fn verb_of(word: &str) -> Result<Verb, Fault> {
         "level" => Ok(Verb::Level),
         "cut" => Ok(Verb::Boat(Deed::Cut)),
         "say" => Ok(Verb::Boat(Deed::Say)),
+        "show" => Ok(Verb::Boat(Deed::Show)),
         "lose" => Ok(Verb::Lose),
         "late" => Ok(Verb::Late),
         "come" => Ok(Verb::Come),
@@ -96,6 +100,60 @@ fn number(word: &str, least: u64, most: u64) -> Option<u64>
         return None;
     }
     Some(n)
+}
+
+// The digit that a byte is, in base 16.
+fn hex_digit(b: u8) -> Option<u8>
+    ensures { λ r. ⌜ BySome r (Unit {0}) (λ d. d ≤ 15) ⌝ }
+{
+    match b {
+        b'0'..=b'9' => Some(b - b'0'),
+        b'a'..=b'f' => Some(b - b'a' + 10),
+        b'A'..=b'F' => Some(b - b'A' + 10),
+        _ => None,
+    }
+}
+
+// The byte that stands at a place of a name, and how many bytes it takes to write: one, or four for `\xNN`.
+fn byte_at(text: &[u8], at: usize) -> Option<(u8, usize)>
+    requires { ⌜ at < length (now text) ⌝ }
+    ensures { λ r. ⌜ BySome r (Unit {0}) (λ p. 1 ≤ p .1) ⌝ }
+{
+    let b = text[at];
+    if b != b'\\' {
+        return Some((b, 1));
+    }
+    if text.len() - at < 4 || text[at + 1] != b'x' {
+        return None;
+    }
+    let high = hex_digit(text[at + 2])?;
+    let low = hex_digit(text[at + 3])?;
+    Some((high * 16 + low, 4))
+}
+
+// A second name: at most 40 bytes.
+fn name_of(text: &[u8]) -> Result<Name, Fault> {
+    let mut bytes = [0u8; 40];
+    let mut len = 0usize;
+    let mut at = 0usize;
+    for _ in 0..text.len() {
+        if at >= text.len() {
+            break;
+        }
+        let Some((byte, width)) = byte_at(text, at) else {
+            return Err(Fault::NotName);
+        };
+        if len >= 40 {
+            return Err(Fault::LongName);
+        }
+        bytes[len] = byte;
+        len += 1;
+        at = at.saturating_add(width);
+    }
+    match Name::new(&bytes[0..len.min(40)]) {
+        Ok(name) => Ok(name),
+        Err(_) => Err(Fault::LongName),
+    }
 }
 
 impl<'a> Words<'a> {
@@ -150,10 +208,38 @@ impl<'a> Words<'a> {
         Ok(Level(n as u32))
     }
 
-    // The next word as a form.
-    fn form(&mut self) -> Result<FormNumber, Fault> {
-        let n = self.number(0, 255, Fault::NotForm)?;
-        Ok(FormNumber(n as u8))
+    // The next word as a draught, or as the number of a lock.
+    fn small(&mut self, fault: Fault) -> Result<u16, Fault> {
+        let n = self.number(0, 65535, fault)?;
+        Ok(n as u16)
+    }
+
+    // The rest as a word, in the form in which it is given: without a draught behind, with one, and with a second name, which goes to the line's end.
+    fn spoken(&mut self) -> Result<Spoken, Fault> {
+        let ship = self.number(0, 4294967295, Fault::NotShip)? as u32;
+        let lock = self.small(Fault::NotLock)?;
+        let before = self.small(Fault::NotDraught)?;
+        if self.rest.is_empty() {
+            return Ok(Spoken::First { ship, lock, before });
+        }
+        let behind = self.small(Fault::NotDraught)?;
+        if self.rest.is_empty() {
+            return Ok(Spoken::Second {
+                ship,
+                lock,
+                before,
+                behind,
+            });
+        }
+        let name = name_of(self.rest.as_bytes())?;
+        self.rest = "";
+        Ok(Spoken::Third {
+            ship,
+            lock,
+            before,
+            behind,
+            name,
+        })
     }
 
     // The next word as the name of a message.
@@ -189,8 +275,9 @@ impl<'a> Words<'a> {
             Deed::Say => Ok(Step::Say {
                 from: boat,
                 to: self.boat()?,
-                given: self.form()?,
+                word: self.spoken()?,
             }),
+            Deed::Show => Ok(Step::Show { boat }),
         }
     }
 

@@ -8,6 +8,7 @@ mod seed;
 mod stage;
 mod steps;
 mod table;
+mod wording;
 
 use stage::Stage;
 use std::env;
@@ -31,7 +32,9 @@ commands, one a line (# begins a comment):
   tick I       boat I tells its promise again, if that is not answered yet
   level K      the harbour says level K
   cut I        boat I loses its power and comes up again
-  say I J F    boat I says a word, given in form F, to boat J
+  say I J SHIP LOCK BEFORE [BEHIND [NAME]]
+               boat I says a word about a ship to boat J
+  show I       what boat I shows of the words that it has taken
   lose         the next message that is sent is lost
   late         the next message that is sent is held back
   come M       message M, as w3 or n5, comes: late, or once more

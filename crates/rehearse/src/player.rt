@@ -24,6 +24,7 @@ use std::io::Write;
 
 mod deliveries;
 mod reasons;
+mod shows;
 
 // What becomes of a message when it is sent.
 #[derive(Clone, Copy)]
@@ -143,7 +144,8 @@ impl Player {
             Step::Tick { boat } => Event::Tick { boat },
             Step::Announce { level } => Event::Announce { level },
             Step::Cut { boat } => Event::Restart { boat },
-            Step::Say { from, to, given } => Event::Say { from, to, given },
+            Step::Say { from, to, word } => Event::Say { from, to, word },
+            Step::Show { boat } => return Ok(self.looked_at(boat)),
             Step::Lose => return self.queue(Fate::Lost),
             Step::Hold => return self.queue(Fate::Late),
             Step::Come { message } => return Ok(self.come(message)),
@@ -156,10 +158,11 @@ impl Player {
     pub(crate) fn step(&mut self, step: Step, echo: &str, out: &mut Output) -> io::Result<()> {
         let answer = self.act(step)?;
         writeln!(out, "{echo}: {answer}")?;
-        if let Step::Raise { level: _ } = step {
-            return self.show_brought(out);
+        match step {
+            Step::Raise { level: _ } => self.show_brought(out),
+            Step::Show { boat } => self.show(boat, out),
+            _ => self.settle(out),
         }
-        self.settle(out)
     }
 
     // What a drawn step may speak of. There is always a boat.

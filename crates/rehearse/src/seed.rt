@@ -2,8 +2,9 @@
 ghost use Prim.Native.Nat.{_<_, _≤_};
 use crate::steps::Message;
 use crate::steps::Step;
+use forms::name::Name;
+use forms::word::Spoken;
 use levels::numbers::BoatId;
-use levels::numbers::FormNumber;
 use levels::numbers::Level;
 use levels::numbers::Program;
 
@@ -73,6 +74,47 @@ impl Draws {
         Some(Message::Notice(1 + self.draw(scene.notices)))
     }
 
+    // A draught from 10 to 49.
+    fn draught(&mut self) -> u16 {
+        10 + self.draw(40) as u16
+    }
+
+    // A word about one of three ships at one of nine locks, in one of the three forms; its second name is a letter.
+    fn word(&mut self) -> Spoken {
+        let form = self.program();
+        let ship = 1 + self.draw(3) as u32;
+        let lock = 1 + self.draw(9) as u16;
+        let before = self.draught();
+        if form == 1 {
+            return Spoken::First { ship, lock, before };
+        }
+        let behind = self.draught();
+        if form == 2 {
+            return Spoken::Second {
+                ship,
+                lock,
+                before,
+                behind,
+            };
+        }
+        let letter = [b'A' + self.draw(26) as u8];
+        match Name::new(&letter) {
+            Ok(name) => Spoken::Third {
+                ship,
+                lock,
+                before,
+                behind,
+                name,
+            },
+            Err(_) => Spoken::Second {
+                ship,
+                lock,
+                before,
+                behind,
+            },
+        }
+    }
+
     // One step.
     pub(crate) fn step(&mut self, scene: Scene) -> Step
         requires { ⌜ 1 ≤ scene .boats ⌝ }
@@ -102,7 +144,7 @@ impl Draws {
                 Step::Say {
                     from,
                     to,
-                    given: FormNumber(self.program()),
+                    word: self.word(),
                 }
             }
             12 => Step::Lose,

@@ -1,6 +1,8 @@
 // What a script may ask of a rehearsal.
+use crate::wording::Given;
+use crate::wording::GivenDisplay;
+use forms::word::Spoken;
 use levels::numbers::BoatId;
-use levels::numbers::FormNumber;
 use levels::numbers::Level;
 use levels::numbers::Program;
 use rehearsal::events::Event;
@@ -69,7 +71,11 @@ pub enum Step {
     Say {
         from: BoatId,
         to: BoatId,
-        given: FormNumber,
+        word: Spoken,
+    },
+    // what a boat shows of the words that it has taken
+    Show {
+        boat: BoatId,
     },
     // the next message that is sent is lost
     Lose,
@@ -86,7 +92,7 @@ pub enum Step {
 }
 
 impl Step {
-    // Its command and the numbers after it; of `come` the message stands for them.
+    // Its command and the numbers after it; of `come` the message stands for them, and of `say` the word follows.
     fn spelled(self) -> (&'static str, [Option<u32>; 3]) {
         match self {
             Step::Renew { boat, to } => ("renew", [Some(boat.0 as u32), Some(to.0), None]),
@@ -95,12 +101,11 @@ impl Step {
             Step::Tick { boat } => ("tick", [Some(boat.0 as u32), None, None]),
             Step::Announce { level } => ("level", [Some(level.0), None, None]),
             Step::Cut { boat } => ("cut", [Some(boat.0 as u32), None, None]),
-            Step::Say { from, to, given } => {
-                (
-                    "say",
-                    [Some(from.0 as u32), Some(to.0 as u32), Some(given.0 as u32)],
-                )
-            }
+            Step::Say { from, to, word: _ } => (
+                "say",
+                [Some(from.0 as u32), Some(to.0 as u32), None],
+            ),
+            Step::Show { boat } => ("show", [Some(boat.0 as u32), None, None]),
             Step::Lose => ("lose", [None, None, None]),
             Step::Hold => ("late", [None, None, None]),
             Step::Come { message: _ } => ("come", [None, None, None]),
@@ -118,9 +123,14 @@ pub impl fmt::Display for Step as StepDisplay {
                 write!(f, " {n}")?;
             }
         }
-        if let Step::Come { message } = self {
-            write!(f, " {message}")?;
+        match self {
+            Step::Come { message } => write!(f, " {message}"),
+            Step::Say {
+                from: _,
+                to: _,
+                word,
+            } => Given { word: *word }.fmt(f),
+            _ => Ok(()),
         }
-        Ok(())
     }
 }

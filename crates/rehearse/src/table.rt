@@ -8,7 +8,8 @@ use levels::numbers::ProgramPartialOrd;
 use levels::rules::newest;
 use levels::rules::reads;
 use levels::standing::Standing;
-use rehearsal::messages::Word;
+use logbook::log::Logbook;
+use rehearsal::messages::Sent;
 use rehearsal::rehearsal::Rehearsal;
 use std::alloc::AllocError;
 use std::alloc::Global;
@@ -16,33 +17,54 @@ use std::io;
 use std::io::Write;
 
 // Is a form on the air: was a word ever sent in it?
-fn on_air(words: &[Word], form: FormNumber) -> bool {
+fn on_air(words: &[Sent], form: FormNumber) -> bool {
     for word in words {
-        if word.form == form {
+        if word.spoken.form() == form {
             return true;
         }
     }
     false
 }
 
-// The forms that are on the air, of those that any program writes.
-fn forms_on_air(heap: Global, words: &[Word]) -> Result<Vec<FormNumber>, AllocError> {
+// Does a boat keep a word in a form?
+fn is_kept(log: &Logbook, form: FormNumber) -> bool {
+    for slot in log.slots() {
+        if slot.word.form() == form {
+            return true;
+        }
+    }
+    false
+}
+
+// Is there a boat that keeps a word in a form?
+fn in_a_file(logs: &[Logbook], form: FormNumber) -> bool {
+    for log in logs {
+        if is_kept(log, form) {
+            return true;
+        }
+    }
+    false
+}
+
+// The forms that are on the air or kept by some boat, of those that any program writes.
+fn forms_in_use(heap: Global, rehearsal: &Rehearsal) -> Result<Vec<FormNumber>, AllocError> {
     let mut forms = Vec::new(heap);
     for number in 1..=newest(Program(u32::MAX)).0 {
-        if on_air(words, FormNumber(number)) {
-            forms.push(FormNumber(number))?;
+        let form = FormNumber(number);
+        if on_air(rehearsal.words(), form) || in_a_file(rehearsal.logs(), form) {
+            forms.push(form)?;
         }
     }
     Ok(forms)
 }
 
 // Does the boat that a word is for read it now?
-fn can_be_read(rehearsal: &Rehearsal, word: Word) -> bool {
+fn can_be_read(rehearsal: &Rehearsal, word: Sent) -> bool {
     let Some(place) = (word.to.0 as usize).checked_sub(1) else {
         return false;
     };
     match rehearsal.boats().get(place) {
-        Some(vessel) => reads(vessel.standing.program, word.form),
+        Some(vessel) => reads(vessel.standing.program, word.spoken.form()),
         None => false,
     }
 }
@@ -118,7 +140,7 @@ fn footing(rehearsal: &Rehearsal, out: &mut Output) -> io::Result<()> {
 
 // Prints the table.
 pub(crate) fn print(heap: Global, rehearsal: &Rehearsal, out: &mut Output) -> io::Result<()> {
-    let forms = forms_on_air(heap, rehearsal.words())?;
+    let forms = forms_in_use(heap, rehearsal)?;
     heading(forms.as_slice(), out)?;
     let mut boat: u16 = 0;
     for vessel in rehearsal.boats() {

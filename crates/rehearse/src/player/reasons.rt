@@ -24,7 +24,7 @@ impl Player {
                 boat,
                 Reason::Fault(Fault::NotOlder),
             ),
-            Event::Say { from, to, given: _ } => {
+            Event::Say { from, to, word: _ } => {
                 self.unless_there(from, self.unless_there(to, Reason::Fault(Fault::ToItself)))
             }
             Event::Announce { level: _ } => Reason::Fault(Fault::NoSense),
