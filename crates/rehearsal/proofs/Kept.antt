@@ -1,13 +1,14 @@
 -- The promises hold after every list of events.
 -- Assumes nothing.
-use Prim.Native.Nat.{ℕ, zero, suc, _≤_, _<_, min}
+use Prim.Native.Nat.{ℕ, zero, suc, _-_, _≤_, _<_, min}
 use mathlib.Core.Path.{_≡_, refl, sym, ap, subst, _∙_, fun-ext}
 use mathlib.Core.Bool.{Bool, true, false, cond, not, _&&_}
 use mathlib.Core.List.{List, [], _∷_, _++_, List·Memᴰ, List·Memᴰ·not-nil}
-use mathlib.Core.Logic.{∥∥₁-map}
+use mathlib.Core.Logic.{_⊎_, inl, inr, ∥∥₁-map}
 use native.Mathlib.Omega.{arith}
 use lib.Dec.{ltb, leb}
 use lib.ListN.{length, getD, replicate}
+use Rattle.std.proofs.shelf.Lists.{length-replicate}
 use Rattle.std.specs.Options.{isSome}
 use Rattle.std.specs.declared.option.Option.{Option}
 use Rattle.std.specs.declared.option.Option.the-variants.{Some, None}
@@ -21,6 +22,7 @@ use Rattle.forms.specs.Meaning.{formOf, shipOf}
 use Rattle.forms.specs.Said.{said}
 use Rattle.logbook.specs.Slots.{Kept}
 use Rattle.logbook.specs.Logs.{Log, empty, slotOf, older, taking}
+use Rattle.rehearsal.proofs.Abs.{place-of}
 use Rattle.rehearsal.proofs.Spoke.{form-bounds}
 use Rattle.levels.specs.Standings.{first, running, goneBack}
 use Rattle.protocol.specs.Order.{numbers}
@@ -33,7 +35,7 @@ use Rattle.rehearsal.specs.declared.events.Event.{Event}
 use Rattle.rehearsal.specs.declared.events.Event.the-variants.{Enlist, Renew, GoBack, Restart, Promise, Tick, Announce, Say, BringWord, BringNotice}
 use Rattle.rehearsal.specs.Worlds.{World, BoatState, Said, begun, fresh, start, placeOf, stateAt, logAt, at, tells, opening, opened, play, noWord, noNotice, keptBy, taken, hearingWord}
 use Rattle.rehearsal.specs.Abstract.{seen, boatOf, logIn, logOf, heardOf, machineOf, wordOf, noticeOf, abs}
-use Rattle.rehearsal.specs.Promises.{none, after, plays, run, Listed, Holds, Promises, RunPromises, Reached}
+use Rattle.rehearsal.specs.Promises.{Heeded, none, after, plays, run, Listed, Holds, Promises, RunPromises, Reached}
 use Rattle.rehearsal.proofs.Sent.{mem-at, mem-back}
 use Rattle.rehearsal.proofs.Ruled.{Ruled, promises-of-numbers, Made, boat-is, made-renewing, made-going-back, made-restarting, made-promising, made-ticking, made-talking, made-hearing-word}
 use Rattle.rehearsal.proofs.Harbour.{backed, made-hearing-notice, made-announcing, made-enlisting}
@@ -71,6 +73,7 @@ ruled-start n =
       spoke = record { meant = λ x at. absurd (List·Memᴰ·not-nil at); numbered = λ x at. absurd (List·Memᴰ·not-nil at); once = none; kept = λ b s at. absurd (List·Memᴰ·not-nil (subst (λ (l : Log). List·Memᴰ s (l .slots)) (start-log n b) at)) };
       there = λ j h. no h;
       sorted = refl;
+      paired = length-replicate n empty ∙ sym (length-replicate n fresh);
     }
   where
     never : false ≡ true → ⊥
@@ -139,40 +142,27 @@ module _ (w : World) (r : Ruled w) where
           left true q = q
           left false q = refl
 
-  never-turned-away : (n : ℕ) → Listed w (getD (w .words) n noWord .to) → play w (BringWord n) ≡ Err (Number 1) → ⊥
-  never-turned-away n on =
+  heeded-taking : (i k : ℕ) (x : Said) → Heeded (keptBy w i (taking (logAt w i) (x .from) (x .number) (x .spoken) k))
+  heeded-taking i k x =
+      let P : Result Log Verdict → Type 0 = λ l. Heeded (keptBy w i l) in
+      cond-both (older (logAt w i .lasts (x .from) (shipOf (x .spoken))) (x .number)) (Err (Number 2)) _ P (λ _. inl refl)
+      (λ _. cond-both (not (isSome (slotOf (shipOf (x .spoken)) (logAt w i .slots))) && leb 4096 (length (logAt w i .slots))) (Err (Number 6)) _ P (λ _. inr refl) (λ _. tt))
+
+  is-heeded : (n : ℕ) → n < length (w .words) → Listed w (getD (w .words) n noWord .to) → Heeded (play w (BringWord n))
+  is-heeded n l on =
       let x : Said = getD (w .words) n noWord in
-      cond-both (ltb n (length (w .words))) (hearingWord w x) (Err Bad) (λ y. y ≡ Err (Number 1) → ⊥)
-      (λ t. go (placeOf w (x .to)) refl (reads-it x (mem-at (w .words) n noWord (ltb-true n (length (w .words)) t)) on))
-      (λ _ h. bad h)
+      subst Heeded (sym (cond-true (ltb n (length (w .words))) (hearingWord w x) (Err Bad) (lt-ltb n (length (w .words)) l)))
+      (go (placeOf w (x .to)) refl (r .there (x .to) on) (reads-it x (mem-at (w .words) n noWord l) on))
     where
-      bad : _≡_ {A = Result World Verdict} (Err Bad) (Err (Number 1)) → ⊥
-      bad h = let z : _≡_ {A = ℕ} 0 1 = cc in omega arith
-
-      two : _≡_ {A = Result Log Verdict} (Err (Number 2)) (Err (Number 1)) → ⊥
-      two h = let z : _≡_ {A = ℕ} 2 1 = cc in omega arith
-
-      six : _≡_ {A = Result Log Verdict} (Err (Number 6)) (Err (Number 1)) → ⊥
-      six h = let z : _≡_ {A = ℕ} 6 1 = cc in omega arith
-
-      kept-one : (i : ℕ) (l : Result Log Verdict) → keptBy w i l ≡ Err (Number 1) → l ≡ Err (Number 1)
-      kept-one i (Ok l) h = let z : _≡_ {A = ℕ} 0 1 = cc in absurd (omega arith)
-      kept-one i (Err e) h = let z : e ≡ Number 1 = cc in ap (λ v. Err v) z
-
-      never-taken : (i k : ℕ) → taking (logAt w i) (getD (w .words) n noWord .from) (getD (w .words) n noWord .number) (getD (w .words) n noWord .spoken) k ≡ Err (Number 1) → ⊥
-      never-taken i k =
+      go : (o : Option ℕ) → placeOf w (getD (w .words) n noWord .to) ≡ o → isSome o ≡ true → reads (seen w o .standing .program) (formOf (getD (w .words) n noWord .spoken)) ≡ true → Heeded (at o (λ i. cond (reads (stateAt w i .standing .program) (formOf (getD (w .words) n noWord .spoken))) (keptBy w i (taken w i (stateAt w i .standing) (getD (w .words) n noWord))) (Err (Number 1))))
+      go None e t c = let z : _≡_ {A = ℕ} 0 1 = cc in absurd (omega arith)
+      go (Some i) e t c =
           let x : Said = getD (w .words) n noWord in
-          let P : Result Log Verdict → Type 0 = λ l. l ≡ Err (Number 1) → ⊥ in
-          cond-both (older (logAt w i .lasts (x .from) (shipOf (x .spoken))) (x .number)) (Err (Number 2)) _ P (λ _. two)
-          (λ _. cond-both (not (isSome (slotOf (shipOf (x .spoken)) (logAt w i .slots))) && leb 4096 (length (logAt w i .slots))) (Err (Number 6)) _ P (λ _. six)
-          (λ _ h. (let z : _≡_ {A = ℕ} 0 1 = cc in omega arith)))
-
-      go : (o : Option ℕ) → placeOf w (getD (w .words) n noWord .to) ≡ o → reads (seen w o .standing .program) (formOf (getD (w .words) n noWord .spoken)) ≡ true → at o (λ i. cond (reads (stateAt w i .standing .program) (formOf (getD (w .words) n noWord .spoken))) (keptBy w i (taken w i (stateAt w i .standing) (getD (w .words) n noWord))) (Err (Number 1))) ≡ Err (Number 1) → ⊥
-      go None e t h = bad h
-      go (Some i) e t h =
-          let x : Said = getD (w .words) n noWord in
-          let k : taken w i (stateAt w i .standing) x ≡ Err (Number 1) = kept-one i (taken w i (stateAt w i .standing) x) (sym (cond-true (reads (stateAt w i .standing .program) (formOf (x .spoken))) (keptBy w i (taken w i (stateAt w i .standing) x)) (Err (Number 1)) t) ∙ h) in
-          cond-both (ltb i (length (w .logs))) (taking (logAt w i) (x .from) (x .number) (x .spoken) (keepForm (stateAt w i .standing) (formOf (x .spoken)))) (Err Bad) (λ l. l ≡ Err (Number 1) → ⊥) (λ _. never-taken i (keepForm (stateAt w i .standing) (formOf (x .spoken)))) (λ _ q. (let z : _≡_ {A = ℕ} 0 1 = cc in omega arith)) k
+          let k : ℕ = keepForm (stateAt w i .standing) (formOf (x .spoken)) in
+          let p : (1 ≤ x .to) × (x .to ≤ length (w .boats)) × (i ≡ x .to - 1) = place-of w (x .to) i e in
+          let m : i < length (w .logs) = omega (arith, r .paired) in
+          subst Heeded (sym (cond-true (reads (stateAt w i .standing .program) (formOf (x .spoken))) (keptBy w i (taken w i (stateAt w i .standing) x)) (Err (Number 1)) c ∙ ap (keptBy w i) (cond-true (ltb i (length (w .logs))) (taking (logAt w i) (x .from) (x .number) (x .spoken) k) (Err Bad) (lt-ltb i (length (w .logs)) m))))
+          (heeded-taking i k x)
 
   goes-back : (b i to : ℕ) → placeOf w b ≡ Some i → stateAt w i .standing .floor ≤ to → to < stateAt w i .standing .program → play w (GoBack (record { 0 = b }) (record { 0 = to })) ≡ Ok (opening w i b (begun (running (stateAt w i .standing) to) (stateAt w i .used)))
   goes-back b i to e low high =
@@ -184,7 +174,7 @@ module _ (w : World) (r : Ruled w) where
   promises =
       record {
         readable = reads-it;
-        taken = never-turned-away;
+        taken = is-heeded;
         meant = r .spoke .meant;
         kept = r .spoke .kept;
         legible = is-legible;

@@ -7,7 +7,7 @@ use mathlib.Core.List.{List, [], _∷_, _++_, map, List·Memᴰ}
 use mathlib.Core.Logic.{_⊎_, inl, inr}
 use native.Mathlib.Omega.{arith}
 use lib.Dec.{eqb, ltb, leb}
-use lib.ListN.{length, getD, set}
+use lib.ListN.{length, length-set}
 use Rattle.std.specs.Options.{isSome, valueOr}
 use Rattle.std.specs.declared.option.Option.{Option}
 use Rattle.std.specs.declared.option.Option.the-variants.{Some, None}
@@ -41,7 +41,7 @@ use Rattle.rehearsal.proofs.Spoke.{Spoke, Below, put-below, put-meant, spoke-m
 use Rattle.rehearsal.proofs.Abs.{higher-max, place-moored, boat-moored, abs-moored, abs-noticed, abs-spoken}
 
 -- crew: who is on the list, in the order of coming onto it. A floor that was answered is in the ledger, words are as they should be,
--- and there is every boat that is on the list, which stands there once
+-- and there is every boat that is on the list, which stands there once; and every boat has its log
 pub record Ruled (w : World) : Type 0 where
   pub crew : List ℕ
   pub on : (j : ℕ) → List·Memᴰ j crew → isSome (floorOf j (w .harbour .list)) ≡ true
@@ -51,6 +51,7 @@ pub record Ruled (w : World) : Type 0 where
   pub spoke : Spoke (boatOf w) (logOf w) (w .words)
   pub there : (j : ℕ) → isSome (floorOf j (w .harbour .list)) ≡ true → isSome (placeOf w j) ≡ true
   pub sorted : ascending (w .harbour .list) ≡ true
+  pub paired : length (w .logs) ≡ length (w .boats)
 
 pub promises-of-numbers : promise.Promises numbers
 promises-of-numbers = always numbers numbers-lawful
@@ -84,16 +85,17 @@ ruled-moored w b i s r e l a lv us =
       spoke = spoke-moored w b i s e lv us (r .spoke);
       there = λ j on. ap isSome (place-moored w i s j) ∙ r .there j on;
       sorted = r .sorted;
+      paired = r .paired ∙ sym (length-set (w .boats) i s);
     }
 
 -- a notice was sent
 pub ruled-noticed : (w : World) (n : Notice) (r : Ruled w) → Step numbers (abs (r .crew) w) (fleet.noticed (abs (r .crew) w) (noticeOf n)) → Ruled (noticed w n)
 ruled-noticed w n r s =
-    record { crew = r .crew; on = r .on; all = r .all; reach = subst (fleet.Reach numbers) (sym (abs-noticed (r .crew) w n)) (fleet.then (r .reach) s); answered = r .answered; spoke = r .spoke; there = r .there; sorted = r .sorted }
+    record { crew = r .crew; on = r .on; all = r .all; reach = subst (fleet.Reach numbers) (sym (abs-noticed (r .crew) w n)) (fleet.then (r .reach) s); answered = r .answered; spoke = r .spoke; there = r .there; sorted = r .sorted; paired = r .paired }
 
 -- what a boat keeps is another
 pub ruled-logged : (w : World) (b i : ℕ) (l : Log) (r : Ruled w) → placeOf w b ≡ Some i → Below (boatOf w b .standing .level) (l .slots) → Ruled (logged w i l)
-ruled-logged w b i l r e h = record { crew = r .crew; on = r .on; all = r .all; reach = r .reach; answered = r .answered; spoke = spoke-logged w b i l e h (r .spoke); there = r .there; sorted = r .sorted }
+ruled-logged w b i l r e h = record { crew = r .crew; on = r .on; all = r .all; reach = r .reach; answered = r .answered; spoke = spoke-logged w b i l e h (r .spoke); there = r .there; sorted = r .sorted; paired = length-set (w .logs) i l ∙ r .paired }
 
 -- a program begins
 pub ruled-opening : (w : World) (b i : ℕ) (s : BoatState) (r : Ruled w) → placeOf w b ≡ Some i → Later numbers (abs (r .crew) w) (fleet.machined (abs (r .crew) w) b (machineOf (s .standing))) → s .answered ≡ false → boatOf w b .standing .level ≤ s .standing .level → boatOf w b .used ≤ s .used → Ruled (opening w i b s)
@@ -193,6 +195,7 @@ ruled-spoken w x r f m n a =
       spoke = spoke-spoken (boatOf w) (logOf w) (w .words) x (r .spoke) m n a;
       there = r .there;
       sorted = r .sorted;
+      paired = r .paired;
     }
 
 ruled-talked : (w : World) (p i j : ℕ) (u : Uttered) (r : Ruled w) → placeOf w i ≡ Some p → Ruled (spec.talked w p i j (stateAt w p) u)

@@ -4,12 +4,13 @@ use Prim.Native.Nat.{ℕ, _≤_, _<_}
 use mathlib.Core.Path.{_≡_}
 use mathlib.Core.Bool.{Bool, true, false}
 use mathlib.Core.List.{List, [], _∷_, _++_, List·Memᴰ}
-use lib.ListN.{getD}
+use mathlib.Core.Logic.{_⊎_}
+use lib.ListN.{length, getD}
 use Rattle.std.specs.Options.{isSome}
 use Rattle.std.specs.declared.option.Option.the-variants.{Some, None}
 use Rattle.std.specs.declared.result.Result.{Result}
 use Rattle.std.specs.declared.result.Result.the-variants.{Ok, Err}
-use Rattle.levels.specs.Verdicts.{Verdict, Number}
+use Rattle.levels.specs.Verdicts.{Verdict, Number, Bad, Memory}
 use Rattle.levels.specs.Rules.{reads}
 use Rattle.levels.specs.Standings.{running}
 use Rattle.levels.specs.Entries.{floorOf}
@@ -54,10 +55,17 @@ pub data Once : List Said → Type 0 where
   none : Once []
   more : {xs : List Said} (y : Said) → Once xs → Above xs y → Once (xs ++ y ∷ [])
 
+-- a word that comes is taken; or it is passed over, since its number is not above the last one (2); or there is no place for one ship more (6)
+abbrev pub Heeded : Result World Verdict → Type 0
+Heeded (Ok v) = Unit {0}
+Heeded (Err (Number n)) = (n ≡ 2) ⊎ (n ≡ 6)
+Heeded (Err Bad) = ⊥
+Heeded (Err Memory) = ⊥
+
 pub record Promises (w : World) : Type 0 where
-  -- every word that was ever sent to a boat of the list is in a form that its program reads: whenever it comes, it is never turned away
+  -- every word that was ever sent to a boat of the list is in a form that its program reads: whenever it comes, it is taken or passed over as older, or there is no place for its ship
   pub readable : (x : Said) → List·Memᴰ x (w .words) → Listed w (x .to) → reads (boatOf w (x .to) .standing .program) (formOf (x .spoken)) ≡ true
-  pub taken : (n : ℕ) → Listed w (getD (w .words) n noWord .to) → play w (BringWord n) ≡ Err (Number 1) → ⊥
+  pub taken : (n : ℕ) → n < length (w .words) → Listed w (getD (w .words) n noWord .to) → Heeded (play w (BringWord n))
   -- and what it reads is the word that was given to be said, less what the form of saying leaves out
   pub meant : (x : Said) → List·Memᴰ x (w .words) → get (x .spoken) ≡ without (formOf (x .spoken)) (x .given)
   -- every word that a boat keeps is in a form of at most its level; and so, on the list, in one that every program from its floor up reads
