@@ -70,28 +70,6 @@ floor-entered i b (x ∷ es) =
       | inr t ↦ simp t
     ]
 
-above-entered : (a b : ℕ) (es : List Entry) → a < b → above a es ≡ true → above a (entered b es) ≡ true
-above-entered a b [] l h = lt-ltb a b l
-above-entered a b (x ∷ es) l h = go (ltb (x .boat .0) b)
-  where
-    go : (t : Bool) → above a (cond t (x ∷ entered b es) (entry b 1 ∷ x ∷ es)) ≡ true
-    go true = h
-    go false = lt-ltb a b l
-
-pub ascending-entered : (b : ℕ) (es : List Entry) → floorOf b es ≡ None → ascending es ≡ true → ascending (entered b es) ≡ true
-ascending-entered b [] n a = refl
-ascending-entered b (x ∷ es) n a =
-    let p : (above (x .boat .0) es ≡ true) × (ascending es ≡ true) = and-parts (above (x .boat .0) es) (ascending es) a in
-    let d : eqb (x .boat .0) b ≡ false = apart (eqb (x .boat .0) b) (x .floor .0) (floorOf b es) n in
-    elim (both (ltb (x .boat .0) b)) [
-      | inl t ↦ ap ascending (cond-true _ _ _ t) ∙ and-from _ _ (above-entered (x .boat .0) b es (grind (arith, tells)) (p .0)) (ascending-entered b es (sym (cond-false _ _ _ d) ∙ n) (p .1))
-      | inr t ↦ ap ascending (cond-false _ _ _ t) ∙ and-from _ _ (let l : ltb b (x .boat .0) ≡ true = grind (arith, tells) in l) a
-    ]
-  where
-    apart : (t : Bool) (f : ℕ) (o : Option ℕ) → cond t (Some f) o ≡ None → t ≡ false
-    apart true f o h = cc
-    apart false f o h = refl
-
 -- where nobody lacks a level, each on the list has promised it
 pub none-lacks : (k b f : ℕ) (es : List Entry) → lacking k es ≡ None → floorOf b es ≡ Some f → k ≤ f
 none-lacks k b f [] n e = let z : _≡_ {A = ℕ} 0 1 = cc in absurd (omega arith)

@@ -32,7 +32,8 @@ use Rattle.rehearsal.specs.Worlds.{World, BoatState, placeOf, stateAt, moored,
 use Rattle.rehearsal.specs.Worlds as spec
 use Rattle.rehearsal.specs.Abstract.{boatOf, heardOf, machineOf, noticeOf, abs}
 use Rattle.rehearsal.proofs.Abs.{higher-max, boat-moored}
-use Rattle.rehearsal.proofs.Books.{both, raisedBy, floor-heard, ascending-heard, floor-entered, ascending-entered, none-lacks, none-is, some-is}
+use Rattle.levels.proofs.Searches.{ascending-entered}
+use Rattle.rehearsal.proofs.Books.{both, raisedBy, floor-heard, ascending-heard, floor-entered, none-lacks, none-is, some-is}
 use Rattle.rehearsal.proofs.Sent.{mem-at, mem-back}
 use Rattle.rehearsal.proofs.Ruled.{Ruled, promises-of-numbers, Made, made-at, made-if, boat-is, ruled-moored, ruled-noticed, same-machine}
 
