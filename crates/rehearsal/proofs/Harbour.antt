@@ -179,7 +179,7 @@ module _ (w : World) (b : ℕ) (none : floorOf b (w .harbour .list) ≡ None) wh
         reach = subst (fleet.Reach numbers) (sym (ap F (fun-ext heard-same))) (fleet.then (r .reach) s);
         answered = λ j a. omega (arith, r .answered j a, heard-same j);
         spoke = r .spoke;
-      paired = r .paired;
+        paired = r .paired;
         there = λ j on. somewhere j (sym (ap isSome (floor-entered j b (w .harbour .list))) ∙ on) (r .there j);
         sorted = ascending-entered b (w .harbour .list) none (r .sorted);
       }
