@@ -95,3 +95,11 @@ RunPromises = (n : ℕ) (es : List Event) → Promises (run n es)
 -- a world that events have made from the start
 abbrev pub Reached : World → Type 0
 Reached w = (n : ℕ) × (es : List Event) × (run n es ≡ w)
+
+-- what was sent in w was sent in v, too
+abbrev pub Lasting : World → World → Type 0
+Lasting w v = ((x : Said) → List·Memᴰ x (w .words) → List·Memᴰ x (v .words)) × ((n : Notice) → List·Memᴰ n (w .notices) → List·Memᴰ n (v .notices))
+
+-- nothing that was sent is ever taken away: whatever happens later, it may still come, and the promises hold of it
+abbrev pub RunLasts : Type 0
+RunLasts = (n : ℕ) (es fs : List Event) → Lasting (run n es) (run n (es ++ fs))

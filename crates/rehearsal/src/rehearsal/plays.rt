@@ -6,7 +6,7 @@ ghost use Rattle.levels.specs.Verdicts.{Tries};
 ghost use Rattle.rehearsal.specs.Worlds.{world, states, allLogs, allSent};
 ghost use Rattle.rehearsal.specs.Worlds as spec;
 ghost use Rattle.rehearsal.specs.Rehearsals.{Began};
-ghost use Rattle.rehearsal.specs.Promises.{Promises, RunPromises};
+ghost use Rattle.rehearsal.specs.Promises.{Promises, RunLasts, RunPromises};
 ghost use Rattle.rehearsal.specs.Rising.{RunRises};
 use super::Rehearsal;
 use crate::events::Event;
@@ -70,6 +70,13 @@ impl Rehearsal {
     {
         self.fleet.notices()
     }
+}
+
+// Nothing that was sent is ever taken away.
+pub fn lasts_stands() -> u8
+    ensures { λ _. ⌜ RunLasts ⌝ }
+{
+    0
 }
 
 // After every list of events from the start all is as promised.
