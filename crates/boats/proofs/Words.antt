@@ -5,10 +5,10 @@ use Rattle.std.proofs.lemmas.List.{length-map}
 use Rattle.std.proofs.lemmas.Bool.{and_parts, le-leb, lt-leb, leb-true}
 use Rattle.levels.specs.Verdicts.{Verdict, Number, Bad, Memory, Due}
 use Rattle.forms.specs.Meaning.{ship_of}
-use Rattle.logbook.specs.declared.log.Logbook.{Logbook}
-use Rattle.logbook.specs.Logs as logs
-use Rattle.logbook.specs.Slots.{Kept, kept}
-use Rattle.logbook.specs.Logs.{Log, slot_of, placed, slot, crowded, restored}
+use Rattle.logbooks.specs.declared.log.Logbook.{Logbook}
+use Rattle.logbooks.specs.Logs as logs
+use Rattle.logbooks.specs.Slots.{Kept, kept}
+use Rattle.logbooks.specs.Logs.{Log, slot_of, placed, slot, crowded, restored}
 use Rattle.records.specs.declared.Record.{Record}
 use Rattle.records.specs.Records.{Written, written, floor_is, level_is, word_is, boat_is, used_to}
 use Rattle.stations.specs.Journals as journal

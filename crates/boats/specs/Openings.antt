@@ -3,9 +3,9 @@
 use Rattle.std.specs.Prelude.{◌≡◌, ℕ, max, true, ◌&&◌, List, length, Ok, Err, Result, nat_le}
 use Rattle.levels.specs.declared.refusals.Refusal.{Refusal}
 use Rattle.levels.specs.Verdicts.{Verdict, verdict}
-use Rattle.logbook.specs.declared.log.Logbook.{Logbook}
-use Rattle.logbook.specs.Logs as logs
-use Rattle.logbook.specs.Logs.{Log, restoring}
+use Rattle.logbooks.specs.declared.log.Logbook.{Logbook}
+use Rattle.logbooks.specs.Logs as logs
+use Rattle.logbooks.specs.Logs.{Log, restoring}
 use Rattle.records.specs.Records.{Written, floor_is, level_is, word_is, boat_is, used_to}
 use Rattle.boats.specs.declared.boat.Boat.{Boat}
 use Rattle.boats.specs.declared.survey.Survey.{Survey}

@@ -2,7 +2,7 @@
 -- Assumes nothing.
 use Rattle.std.specs.Prelude.{ℕ}
 use Rattle.levels.specs.Standings.{view}
-use Rattle.logbook.specs.Logs as logs
+use Rattle.logbooks.specs.Logs as logs
 use Rattle.boats.specs.declared.boat.Boat.{Boat}
 use Rattle.stations.specs.Boats.{Memory}
 

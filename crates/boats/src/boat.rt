@@ -1,7 +1,7 @@
 // A boat as a program that runs.
 use levels::numbers::BoatId;
 use levels::standing::Standing;
-use logbook::log::Logbook;
+use logbooks::log::Logbook;
 
 mod opens;
 mod reads;

@@ -5,8 +5,8 @@ use Rattle.std.proofs.lemmas.Bool.{and_from, and_left, and_right, le-leb, lt-leb
 use Rattle.std.proofs.lemmas.List.{length-map, map-set, map_push, get_or-map, take_more}
 use Rattle.fleet.specs.declared.fleet.Vessel.{Vessel}
 use Rattle.fleet.specs.declared.fleet.Fleet.{Fleet}
-use Rattle.logbook.specs.declared.log.Logbook.{Logbook}
-use Rattle.logbook.specs.Logs.{log, empty}
+use Rattle.logbooks.specs.declared.log.Logbook.{Logbook}
+use Rattle.logbooks.specs.Logs.{log, empty}
 use Rattle.ledger.specs.declared.book.Entry.{Entry}
 use Rattle.world.specs.declared.messages.Notice.{Notice}
 use Rattle.world.specs.Worlds.{allowing, to_each, BoatState, World, fresh, place_of, state_at, log_at}

@@ -7,7 +7,7 @@ use Rattle.levels.specs.declared.refusals.Refusal.{Refusal}
 use Rattle.levels.specs.Verdicts.{Verdict, Number, Bad, Memory, verdict, Due, Tries}
 use Rattle.levels.specs.Rules.{reads}
 use Rattle.forms.specs.Meaning.{Uttered, form_of}
-use Rattle.logbook.specs.Logs.{Log, log, empty}
+use Rattle.logbooks.specs.Logs.{Log, log, empty}
 use Rattle.world.specs.declared.messages.Sent.{Sent}
 use Rattle.fleet.specs.declared.fleet.Berth.{Berth}
 use Rattle.fleet.specs.declared.fleet.Fleet.{Fleet}

@@ -6,8 +6,8 @@ use Rattle.levels.specs.Verdicts.{Bad, Memory, verdict}
 use Rattle.levels.specs.Standings.{view}
 use Rattle.ledger.specs.Ledgers.{book}
 use Rattle.forms.specs.Said.{meaning, said}
-use Rattle.logbook.specs.declared.log.Logbook.{Logbook}
-use Rattle.logbook.specs.Logs.{Log, log}
+use Rattle.logbooks.specs.declared.log.Logbook.{Logbook}
+use Rattle.logbooks.specs.Logs.{Log, log}
 use Rattle.world.specs.declared.messages.Sent.{Sent}
 use Rattle.world.specs.Worlds.{World, Said, BoatState, start, place_of, state_at}
 use Rattle.fleet.specs.declared.fleet.Vessel.{Vessel}

@@ -1,7 +1,7 @@
 // The harbour, the boats, and all that was ever sent.
 use ledger::book::Ledger;
 use levels::standing::Standing;
-use logbook::log::Logbook;
+use logbooks::log::Logbook;
 use world::messages::{Notice, Sent};
 
 mod begins;

@@ -4,7 +4,7 @@ use fleet::fleet::Fleet;
 use levels::numbers::{BoatId, FormNumber, Program};
 use levels::rules::{newest, reads};
 use levels::standing::Standing;
-use logbook::log::Logbook;
+use logbooks::log::Logbook;
 use std::alloc::{AllocError, Global};
 use std::io;
 use std::io::Write;

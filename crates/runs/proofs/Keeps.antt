@@ -10,8 +10,8 @@ use Rattle.levels.specs.Rules.{Boat, reads, newest, keep_form}
 use Rattle.ledger.specs.Ledgers.{Book}
 use Rattle.ledger.proofs.Books.{both}
 use Rattle.forms.specs.Meaning.{Uttered, form_of, ship_of}
-use Rattle.logbook.specs.Slots.{keeping}
-use Rattle.logbook.specs.Logs.{Log, slot_of, older, entered, taking}
+use Rattle.logbooks.specs.Slots.{keeping}
+use Rattle.logbooks.specs.Logs.{Log, slot_of, older, entered, taking}
 use Rattle.messages.specs.Messages.{word, Letter}
 use Rattle.records.specs.Records.{Written, floor_is, level_is, word_is, boat_is, used_to}
 use Rattle.stations.specs.Journals as journal

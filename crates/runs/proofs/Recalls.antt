@@ -10,8 +10,8 @@ use Rattle.levels.specs.Rules.{Boat, keep_form}
 use Rattle.levels.specs.Standings.{promised, raised}
 use Rattle.ledger.proofs.Books.{both}
 use Rattle.forms.specs.Meaning.{Uttered, first, second, third, form_of, ship_of, put, get}
-use Rattle.logbook.specs.Slots.{Kept, keeping, forgotten}
-use Rattle.logbook.specs.Logs.{Log, placed, slot_of, slot, higher, older, noted, entered, taking, fallen}
+use Rattle.logbooks.specs.Slots.{Kept, keeping, forgotten}
+use Rattle.logbooks.specs.Logs.{Log, placed, slot_of, slot, higher, older, noted, entered, taking, fallen}
 use Rattle.records.specs.Records.{Written, floor_is, level_is, word_is, boat_is, used_to}
 use Rattle.stations.specs.Journals as journal
 use Rattle.stations.specs.Journals.{floor, level, used, last, slots, number_in}

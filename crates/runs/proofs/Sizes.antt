@@ -5,8 +5,8 @@ use Rattle.std.proofs.lemmas.Bool.{cond_both, cond-true, cond-false, ltb-true, l
 use Rattle.std.proofs.lemmas.Bool.Decides.{nat_tests}
 use Rattle.std.proofs.lemmas.List.{length-map}
 use Rattle.ledger.proofs.Books.{both}
-use Rattle.logbook.specs.Slots.{Kept, forgotten}
-use Rattle.logbook.specs.Logs.{placed, slot_of, slot}
+use Rattle.logbooks.specs.Slots.{Kept, forgotten}
+use Rattle.logbooks.specs.Logs.{placed, slot_of, slot}
 use Rattle.records.specs.Records.{Written, floor_is, level_is, word_is, boat_is, used_to}
 use Rattle.stations.specs.Journals.{slots}
 

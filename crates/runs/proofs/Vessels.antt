@@ -7,8 +7,8 @@ use Rattle.std.proofs.lemmas.List.{length-map}
 use Rattle.levels.specs.Verdicts.{Verdict, Number, Bad}
 use Rattle.levels.specs.Rules.{Boat, reads, newest, say_form, keep_form}
 use Rattle.forms.specs.Meaning.{Meaning, Uttered, first, second, third, form_of, ship_of, put, get, without}
-use Rattle.logbook.specs.Slots.{Kept, forgotten}
-use Rattle.logbook.specs.Logs.{Log, slot_of, slot, taking, fallen}
+use Rattle.logbooks.specs.Slots.{Kept, forgotten}
+use Rattle.logbooks.specs.Logs.{Log, slot_of, slot, taking, fallen}
 use Rattle.messages.specs.Messages.{Telling, word, promise, heard, level, has_it, Letter, notice}
 use Rattle.records.specs.Records.{Written, floor_is, level_is, word_is, boat_is, used_to}
 use Rattle.stations.specs.Journals as journal

@@ -5,7 +5,7 @@ use Rattle.levels.specs.Verdicts.{Verdict, Number, Bad, Memory}
 use Rattle.forms.specs.declared.word.Spoken.TheVariants.{First, Second}
 use Rattle.forms.specs.Meaning.{Meaning, form_of, put, get}
 use Rattle.forms.specs.Shows.{View, showing}
-use Rattle.logbook.specs.Slots.{Kept, shown_of}
+use Rattle.logbooks.specs.Slots.{Kept, shown_of}
 use Rattle.messages.specs.Messages.{Telling, word, promise, heard, level, has_it, Letter}
 use Rattle.stations.specs.Journals as journal
 use Rattle.stations.specs.Boats as boats

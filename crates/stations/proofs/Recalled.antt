@@ -6,9 +6,9 @@ use Rattle.std.proofs.lemmas.Bool.{ltb-true, ltb-false, leb-true, leb-false, con
 use Rattle.levels.specs.Rules.{reads, accepts, keep_form}
 use Rattle.levels.specs.Verdicts.{Verdict, Number, Bad}
 use Rattle.forms.specs.Meaning.{Meaning, Uttered, first, second, third, form_of, ship_of, put, get}
-use Rattle.logbook.specs.Slots.{Kept, keeping, forgotten}
-use Rattle.logbook.specs.Logs.{Log, placed, older, noted, entered, crowded, taking, fallen, slot, higher, restored}
-use Rattle.logbook.proofs.Taking.{noted_higher}
+use Rattle.logbooks.specs.Slots.{Kept, keeping, forgotten}
+use Rattle.logbooks.specs.Logs.{Log, placed, older, noted, entered, crowded, taking, fallen, slot, higher, restored}
+use Rattle.logbooks.proofs.Taking.{noted_higher}
 use Rattle.messages.specs.Messages.{Telling, word, promise, heard, level, has_it, Letter}
 use Rattle.records.specs.Records.{Written, floor_is, level_is, word_is, used_to}
 use Rattle.stations.specs.Boats as boats

@@ -5,7 +5,7 @@ use Rattle.levels.specs.Verdicts.{Verdict, Number, Bad}
 use Rattle.levels.specs.Rules.{Boat, reads, accepts, say_form, keep_form}
 use Rattle.levels.specs.Standings.{promised, raised}
 use Rattle.forms.specs.Meaning.{Uttered, form_of, put, get}
-use Rattle.logbook.specs.Logs.{Log, taking, fallen}
+use Rattle.logbooks.specs.Logs.{Log, taking, fallen}
 use Rattle.messages.specs.Messages.{Telling, word, promise, heard, level, has_it, Letter, notice}
 use Rattle.records.specs.Records.{Written, floor_is, level_is, word_is, used_to}
 use Rattle.stations.specs.Journals as journal

@@ -5,8 +5,8 @@ use Rattle.ledger.specs.declared.book.Entry.{Entry}
 use Rattle.ledger.specs.Entries.{admitted, heard}
 use Rattle.levels.specs.Rules.{reads}
 use Rattle.forms.specs.Meaning.{form_of, ship_of}
-use Rattle.logbook.specs.Slots.{Kept}
-use Rattle.logbook.specs.Logs.{Log, placed, slot, higher}
+use Rattle.logbooks.specs.Slots.{Kept}
+use Rattle.logbooks.specs.Logs.{Log, placed, slot, higher}
 use Rattle.records.specs.Records.{Written, floor_is, level_is, word_is, boat_is, used_to}
 
 -- the highest of what the records have of something, and d at least

@@ -12,8 +12,8 @@ use Rattle.levels.specs.Verdicts.{Verdict, Number, Bad, Tries}
 use Rattle.levels.specs.Rules.{Boat, reads, newest, keep_form}
 use Rattle.forms.specs.Meaning.{form_of, ship_of}
 use Rattle.forms.specs.Said.{said}
-use Rattle.logbook.specs.Slots.{Kept}
-use Rattle.logbook.specs.Logs.{Log, empty, slot_of, older, taking}
+use Rattle.logbooks.specs.Slots.{Kept}
+use Rattle.logbooks.specs.Logs.{Log, empty, slot_of, older, taking}
 use Rattle.world.proofs.Abs.{place_of_lem}
 use Rattle.world.proofs.Spoke.{form_bounds}
 use Rattle.levels.specs.Standings.{first, running, gone_back}

@@ -11,7 +11,7 @@ use Rattle.ledger.specs.Entries.{floor_of}
 use Rattle.ledger.specs.Ledgers.{Book, listing, hearing, saying}
 use Rattle.forms.specs.Meaning.{Uttered, form_of}
 use Rattle.forms.specs.Said.{said}
-use Rattle.logbook.specs.Logs.{Log}
+use Rattle.logbooks.specs.Logs.{Log}
 use Rattle.world.specs.declared.messages.Notice.{Notice}
 use Rattle.world.specs.declared.messages.Notice.TheVariants.{Promised, Heard, Allowed, Taken}
 use Rattle.world.specs.declared.events.Event.{Event}

@@ -7,8 +7,8 @@ use Rattle.std.proofs.lemmas.Bool.{leb-true, ltb-true, and_parts, cond-true, con
 use Rattle.levels.specs.Verdicts.{Verdict, Number, Bad}
 use Rattle.levels.specs.Rules.{Boat, reads, say_form, keep_form}
 use Rattle.forms.specs.Meaning.{Uttered, form_of, ship_of, put as utter, get, without}
-use Rattle.logbook.specs.Slots.{keeping, forgotten}
-use Rattle.logbook.specs.Logs.{Log, slot_of, older, entered, taking, fallen}
+use Rattle.logbooks.specs.Slots.{keeping, forgotten}
+use Rattle.logbooks.specs.Logs.{Log, slot_of, older, entered, taking, fallen}
 use Rattle.levels.specs.Standings.{first, running, renewed, gone_back, raised}
 use Rattle.levels.specs.Standings as boat
 use Rattle.ledger.specs.Entries.{floor_of, ascending}

@@ -7,8 +7,8 @@ use Rattle.std.proofs.lemmas.Bool.{cases_eq, cases_lt, cond_both}
 use Rattle.std.proofs.lemmas.Bool.Decides.{nat_tests}
 use Rattle.forms.specs.Meaning.{Meaning, Uttered, first, second, third, form_of, put, get, without}
 use Rattle.forms.proofs.Laws.{laws}
-use Rattle.logbook.specs.Slots.{Kept, keeping, forgotten}
-use Rattle.logbook.specs.Logs.{Log, empty, placed, entered, fallen}
+use Rattle.logbooks.specs.Slots.{Kept, keeping, forgotten}
+use Rattle.logbooks.specs.Logs.{Log, empty, placed, entered, fallen}
 use Rattle.protocol.specs.Fleet as fleet
 use Rattle.protocol.proofs.Puts.{put_each}
 use Rattle.world.specs.Worlds.{World, BoatState, Said, place_of, log_at, moored, logged}

@@ -5,7 +5,7 @@ use Rattle.std.specs.Option.{unwrap_or}
 use Rattle.levels.specs.Rules.{Boat}
 use Rattle.ledger.specs.Entries.{floor_of}
 use Rattle.forms.specs.Meaning.{form_of}
-use Rattle.logbook.specs.Logs.{Log, empty}
+use Rattle.logbooks.specs.Logs.{Log, empty}
 use Rattle.protocol.specs.Fleet.{Machine}
 use Rattle.protocol.specs.Fleet as fleet
 use Rattle.world.specs.declared.messages.Notice.{Notice}

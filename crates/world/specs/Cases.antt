@@ -6,8 +6,8 @@ use Rattle.forms.specs.declared.word.Spoken.{Spoken}
 use Rattle.forms.specs.declared.word.Spoken.TheVariants.{First, Second}
 use Rattle.forms.specs.Meaning.{Meaning, Uttered, first, second, third, form_of, put, get}
 use Rattle.forms.specs.Shows.{View, showing}
-use Rattle.logbook.specs.Slots.{Kept, shown_of}
-use Rattle.logbook.specs.Logs.{Log}
+use Rattle.logbooks.specs.Slots.{Kept, shown_of}
+use Rattle.logbooks.specs.Logs.{Log}
 use Rattle.world.specs.declared.messages.Notice.{Notice}
 use Rattle.world.specs.declared.messages.Notice.TheVariants.{Promised, Heard, Allowed, Taken}
 use Rattle.world.specs.declared.events.Event.{Event}

@@ -7,7 +7,7 @@ use Rattle.levels.specs.Rules.{reads}
 use Rattle.levels.specs.Standings.{running}
 use Rattle.ledger.specs.Entries.{floor_of}
 use Rattle.forms.specs.Meaning.{form_of, get, without}
-use Rattle.logbook.specs.Slots.{Kept}
+use Rattle.logbooks.specs.Slots.{Kept}
 use Rattle.world.specs.declared.messages.Notice.{Notice}
 use Rattle.world.specs.declared.messages.Notice.TheVariants.{Promised, Heard, Allowed, Taken}
 use Rattle.world.specs.declared.events.Event.{Event}

@@ -12,7 +12,7 @@ use Rattle.ledger.specs.Entries.{floor_of}
 use Rattle.ledger.specs.Ledgers.{Book, blank, listing, hearing, saying}
 use Rattle.forms.specs.Meaning.{Meaning, Uttered, first as first_form, form_of, put, get}
 use Rattle.forms.specs.Said.{said}
-use Rattle.logbook.specs.Logs.{Log, empty, taking, fallen}
+use Rattle.logbooks.specs.Logs.{Log, empty, taking, fallen}
 use Rattle.world.specs.declared.messages.Notice.{Notice}
 use Rattle.world.specs.declared.messages.Notice.TheVariants.{Promised, Heard, Allowed, Taken}
 use Rattle.world.specs.declared.events.Event.{Event}

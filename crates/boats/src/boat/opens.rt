@@ -1,6 +1,6 @@
 // A boat's program begins: it reads its journal.
 ghost use Rattle.levels.specs.Verdicts.{Tries};
-ghost use Rattle.logbook.specs.Logs as logs;
+ghost use Rattle.logbooks.specs.Logs as logs;
 ghost use Rattle.records.specs.Records.{written};
 ghost use Rattle.boats.specs.Openings.{replaying, Rebuilt, Opens};
 ghost use Rattle.stations.specs.Steps.{filed};
@@ -10,7 +10,7 @@ use crate::survey::look_through;
 use levels::numbers::{BoatId, Level, Program};
 use levels::refusals::Refusal;
 use levels::standing::Standing;
-use logbook::log::Logbook;
+use logbooks::log::Logbook;
 use records::Record;
 use stations::step::Step;
 use std::alloc::Global;

@@ -1,13 +1,13 @@
 // What a boat knows.
 ghost use Rattle.std.specs.Prelude.{◌≡◌};
 ghost use Rattle.levels.specs.Standings.{view};
-ghost use Rattle.logbook.specs.Logs as logs;
+ghost use Rattle.logbooks.specs.Logs as logs;
 ghost use Rattle.boats.specs.Views.{memory, number_of};
 
 use super::Boat;
 use levels::numbers::BoatId;
 use levels::standing::Standing;
-use logbook::log::Logbook;
+use logbooks::log::Logbook;
 
 impl Boat {
     // Its number.

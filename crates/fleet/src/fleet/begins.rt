@@ -5,7 +5,7 @@ use super::{Fleet, Vessel};
 use ledger::book::Ledger;
 use levels::refusals::Refusal;
 use levels::standing::Standing;
-use logbook::log::Logbook;
+use logbooks::log::Logbook;
 use std::alloc::Global;
 
 // How many boats a rehearsal takes.

@@ -2,7 +2,7 @@
 ghost use Rattle.std.specs.Prelude.{◌≡◌, ◌+◌, ◌<◌, ◌≤◌, ◌++◌, length, Ok, vec_len, vec_capacity};
 ghost use Rattle.forms.specs.Said.{said};
 ghost use Rattle.levels.specs.Standings.{view};
-ghost use Rattle.logbook.specs.Logs.{fallen};
+ghost use Rattle.logbooks.specs.Logs.{fallen};
 ghost use Rattle.levels.specs.Verdicts.{Does, Tries, told};
 ghost use Rattle.world.specs.declared.messages.Notice.TheVariants.{Promised, Heard, Allowed};
 ghost use Rattle.fleet.specs.Fleets.{world, state, Found};

@@ -6,7 +6,7 @@ ghost use Rattle.fleet.specs.Fleets.{world, states, all_logs, all_sent};
 use super::Rehearsal;
 use fleet::fleet::Vessel;
 use ledger::book::Ledger;
-use logbook::log::Logbook;
+use logbooks::log::Logbook;
 use world::messages::{Notice, Sent};
 
 impl Rehearsal {

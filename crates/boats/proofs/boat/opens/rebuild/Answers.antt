@@ -2,7 +2,7 @@ use Rattle.std.proofs.Common.{◌≡◌, ap, ◌∙◌}
 use Rattle.std.proofs.lemmas.List.{take_all}
 use Rattle.std.proofs.lemmas.Result.{err_from_is_err_and}
 use Rattle.levels.specs.Verdicts.{verdict}
-use Rattle.logbook.specs.Logs as logs
+use Rattle.logbooks.specs.Logs as logs
 use Rattle.stations.specs.Journals as journal
 use Rattle.stations.specs.Steps.{filed}
 use Rattle.boats.proofs.Words.{rebuilt_more, refused_at, fits}

@@ -1,5 +1,5 @@
 use Rattle.std.proofs.Common.{◌≡◌, take}
-use Rattle.logbook.specs.Logs as logs
+use Rattle.logbooks.specs.Logs as logs
 use Rattle.stations.specs.Journals as journal
 use Rattle.stations.specs.Steps.{filed}
 use Rattle.boats.proofs.boat.opens.rebuild.Given as goal

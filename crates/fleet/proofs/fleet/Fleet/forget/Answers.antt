@@ -1,6 +1,6 @@
 use Rattle.std.proofs.Common.{◌≡◌, List, map, set, vec_items, sym, ap, ◌∙◌, arith, rules}
 use Rattle.std.proofs.lemmas.List.{length-map, map-set}
-use Rattle.logbook.specs.Logs.{Log, log, fallen}
+use Rattle.logbooks.specs.Logs.{Log, log, fallen}
 use Rattle.world.specs.Worlds.{World, log_at}
 use Rattle.fleet.specs.Fleets.{world}
 use Rattle.fleet.proofs.Views.{log_is}

@@ -5,7 +5,7 @@ use Rattle.levels.specs.Rules.{keep_form}
 use Rattle.levels.specs.Standings.{view}
 use Rattle.levels.specs.Verdicts.{Verdict, Tries}
 use Rattle.forms.specs.Said.{said}
-use Rattle.logbook.specs.Logs.{Log, log, taking}
+use Rattle.logbooks.specs.Logs.{Log, log, taking}
 use Rattle.world.specs.Worlds.{World, log_at, kept_by}
 use Rattle.fleet.specs.Fleets.{world}
 use Rattle.fleet.proofs.Views.{log_is}

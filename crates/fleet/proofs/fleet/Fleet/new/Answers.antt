@@ -2,7 +2,7 @@ use Rattle.std.proofs.Common.{◌≡◌, List, [], ◌∷◌, ◌++◌, map, rep
 use Rattle.std.proofs.lemmas.List.{map_push, replicate_more}
 use Rattle.ledger.specs.Ledgers.{Book, book, blank}
 use Rattle.levels.specs.Rules.{Boat}
-use Rattle.logbook.specs.Logs.{Log, log, empty}
+use Rattle.logbooks.specs.Logs.{Log, log, empty}
 use Rattle.world.specs.declared.messages.Notice.{Notice}
 use Rattle.world.specs.Worlds.{World, BoatState, Said, begun, fresh}
 use Rattle.fleet.specs.Fleets.{state, states, all_sent, all_logs}

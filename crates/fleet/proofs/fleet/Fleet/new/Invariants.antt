@@ -1,5 +1,5 @@
 use Rattle.std.proofs.Common.{◌≡◌, replicate, vec_items}
-use Rattle.logbook.specs.Logs.{empty}
+use Rattle.logbooks.specs.Logs.{empty}
 use Rattle.world.specs.Worlds.{fresh}
 use Rattle.fleet.specs.Fleets.{states, all_logs}
 use Rattle.fleet.proofs.fleet.Fleet.new.Given as goal
