@@ -15,8 +15,8 @@ inside g c =
     let f = c.args.format.now in
     within_part (g.F.Format.begins f) (g.met.F.Format.within f) c.args.file.now c.loop-at.at c.in-Whole.size c.loop-at.invariant.0 (whole_here g c)
 
-pub overflow-add-at : goal.overflow-add-at
-overflow-add-at g c = let w = inside g c in search rules
+pub overflow_add-at : goal.overflow_add-at
+overflow_add-at g c = let w = inside g c in search rules
 
 pub loop-at-smaller : goal.loop-at-smaller
 loop-at-smaller g c = let w = inside g c in omega arith

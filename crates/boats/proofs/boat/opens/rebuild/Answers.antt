@@ -10,12 +10,12 @@ use Rattle.boats.proofs.boat.opens.rebuild.Goals as goal
 
 pub loop-record-preserved : goal.loop-record-preserved
 loop-record-preserved c =
-    rebuilt_more c.args.journal.now c.loop-record.record-index c.record-item.result (logs.log c.loop-record.log) (logs.log c.replay.new.log) c.loop-record-test.true c.record-item.is c.loop-record.invariant c.in-ok-replay.ensures
+    rebuilt_more c.args.journal.now c.loop-record.record-index c.record-item.result (logs.log c.loop-record.log) (logs.log c.replay.new.log) c.loop-record-test.true c.record-item.is c.loop-record.invariant c.in_ok-replay.ensures
 
-pub returns-in-err-replay : goal.returns-in-err-replay
-returns-in-err-replay c =
-    let p = err_from_is_err_and c.from-residual.result c.from-residual.ensures.1 in
-    rw (p.1, p.2) (refused_at c.args.journal.now c.loop-record.record-index c.record-item.result (logs.log c.loop-record.log) (verdict c.in-err-replay.field-0.0) c.loop-record-test.true c.record-item.is c.loop-record.invariant c.in-err-replay.ensures.0)
+pub returns-in_err-replay : goal.returns-in_err-replay
+returns-in_err-replay c =
+    let p = err_from_is_err_and c.from_residual.result c.from_residual.ensures.1 in
+    rw (p.1, p.2) (refused_at c.args.journal.now c.loop-record.record-index c.record-item.result (logs.log c.loop-record.log) (verdict c.in_err-replay.field-0.0) c.loop-record-test.true c.record-item.is c.loop-record.invariant c.in_err-replay.ensures.0)
 
 pub returns : goal.returns
 returns c =

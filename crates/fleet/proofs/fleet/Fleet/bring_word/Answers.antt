@@ -12,8 +12,8 @@ use Rattle.fleet.proofs.fleet.Fleet.bring_word.Goals as goal
 pub returns-then-number-len : goal.returns-then-number-len
 returns-then-number-len c = (bring_past c.args.self.now c.args.number (search rules), refl)
 
-pub returns-in-default : goal.returns-in-default
-returns-in-default c =
+pub returns-in_default : goal.returns-in_default
+returns-in_default c =
     let l : c.args.number < length (vec_items c.args.self.now.words) = search rules in
     (bring_at c.args.self.now c.args.number c.index-sent.result.now l c.index-sent.ensures ∙ hear_none (world c.args.self.now) (sent c.index-sent.result.now) (search rules), refl)
 

@@ -11,7 +11,7 @@ pub returns-then-place-len : goal.returns-then-place-len
 returns-then-place-len c =
     let w : World = world c.args.self.now in
     let F : List Log → World = λ l. record { boats = w.boats; logs = l; harbour = w.harbour; words = w.words; notices = w.notices } in
-    ap F (map-set log (vec_items c.args.self.now.logs) c.args.place _ ∙ ap (λ x. set w.logs c.args.place x) (c.fall.ensures ∙ ap fallen (sym (log_is c.args.self.now c.args.place c.index-mut.result.now (search rules) c.index-mut.ensures.value))))
+    ap F (map-set log (vec_items c.args.self.now.logs) c.args.place _ ∙ ap (λ x. set w.logs c.args.place x) (c.fall.ensures ∙ ap fallen (sym (log_is c.args.self.now c.args.place c.index_mut.result.now (search rules) c.index_mut.ensures.value))))
 
 pub returns-else-place-len : goal.returns-else-place-len
 returns-else-place-len c =

@@ -25,9 +25,9 @@ returns c =
     let i : ℕ = c.args.at.place in
     let n = length-map (vec_items c.args.self.now.logs) log in
     let l : i < length (vec_items c.args.self.now.logs) = search rules in
-    let here : log c.index-mut.result.now ≡ log_at w i = sym (log_is c.args.self.now i c.index-mut.result.now l c.index-mut.ensures.value) in
-    let most : c.keep-form-most.result.0 ≡ keep_form (view c.args.at.vessel.standing) _ = c.keep-form-most.ensures ∙ ap (keep_form (view c.args.at.vessel.standing)) c.form.ensures in
+    let here : log c.index_mut.result.now ≡ log_at w i = sym (log_is c.args.self.now i c.index_mut.result.now l c.index_mut.ensures.value) in
+    let most : c.keep_form-most.result.0 ≡ keep_form (view c.args.at.vessel.standing) _ = c.keep_form-most.ensures ∙ ap (keep_form (view c.args.at.vessel.standing)) c.form.ensures in
     let T : Log → ℕ → Type 0 = λ x k. Tries (taking x c.args.sent.from.0 c.args.sent.number (said c.args.sent.spoken) k) c.take.result x (log c.take.new.self) in
-    let t = subst (λ k. T (log_at w i) k) most (subst (λ x. T x c.keep-form-most.result.0) here c.take.ensures) in
+    let t = subst (λ k. T (log_at w i) k) most (subst (λ x. T x c.keep_form-most.result.0) here c.take.ensures) in
     let F : List Log → World = λ ls. record { boats = w.boats; logs = ls; harbour = w.harbour; words = w.words; notices = w.notices } in
     kept_tries w _ i _ c.take.result (log c.take.new.self) (subst (λ (want : Result Log Verdict). Tries want c.take.result (log_at w i) (log c.take.new.self)) (sym (cond-true _ _ _ (lt-ltb i (length w.logs) (omega (arith, n, l))))) t) (ap F (map-set log (vec_items c.args.self.now.logs) i c.take.new.self))

@@ -15,8 +15,8 @@ pub loop-preserved : goal.loop-preserved
 loop-preserved c =
     let B : Boat → List BoatState = λ b. states (vec_items c.loop.vessels) ++ begun b 0 ∷ [] in
     let L : Log → List Log = λ l. all_logs (vec_items c.loop.logs) ++ l ∷ [] in (
-      ap states c.in-ok-push.ensures.items ∙ map_push state (vec_items c.loop.vessels) _ ∙ ap B c.first.ensures ∙ ap (λ l. l ++ fresh ∷ []) c.loop.invariant.0 ∙ replicate_more c.loop.counter fresh,
-      ap all_logs c.in-ok-push-2.ensures.items ∙ map_push log (vec_items c.loop.logs) _ ∙ ap L c.new.ensures ∙ ap (λ l. l ++ empty ∷ []) c.loop.invariant.1 ∙ replicate_more c.loop.counter empty,
+      ap states c.in_ok-push.ensures.items ∙ map_push state (vec_items c.loop.vessels) _ ∙ ap B c.first.ensures ∙ ap (λ l. l ++ fresh ∷ []) c.loop.invariant.0 ∙ replicate_more c.loop.counter fresh,
+      ap all_logs c.in_ok-push-2.ensures.items ∙ map_push log (vec_items c.loop.logs) _ ∙ ap L c.new.ensures ∙ ap (λ l. l ++ empty ∷ []) c.loop.invariant.1 ∙ replicate_more c.loop.counter empty,
     )
 
 pub returns : goal.returns

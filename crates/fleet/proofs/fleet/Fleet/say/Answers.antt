@@ -24,7 +24,7 @@ returns c =
     let b : leb 4294967296 (s.used + 1) ≡ false = lt-leb 4294967296 (s.used + 1) (search rules) in
     let M : Meaning → Uttered → Said = λ m v. record { from = c.args.from.0; to = c.args.to.0; number = s.used + 1; given = m; spoken = v } in
     let W : List Said → World = λ ws. moored (record { boats = w.boats; logs = w.logs; harbour = w.harbour; words = ws; notices = w.notices }) c.in-Some.at.place (counted s) in
-    let form : put (say_form s.standing c.args.to.0) (get u) ≡ said c.put-spoken.result = sym (c.put-spoken.ensures ∙ ap (λ f. put f (meaning c.read-given.result)) c.say-form.ensures ∙ ap (put (say_form s.standing c.args.to.0)) c.read-given.ensures) in
-    let words : w.words ++ M (get u) (put (say_form s.standing c.args.to.0) (get u)) ∷ [] ≡ all_sent (vec_items c.push.new.self) = ap (λ v. w.words ++ M (get u) v ∷ []) form ∙ ap (λ m. w.words ++ M m (said c.put-spoken.result) ∷ []) (sym c.read-given.ensures) ∙ sym (ap all_sent c.in-ok-push.ensures.items ∙ map_push sent (vec_items c.args.self.now.words) _) in
+    let form : put (say_form s.standing c.args.to.0) (get u) ≡ said c.put-spoken.result = sym (c.put-spoken.ensures ∙ ap (λ f. put f (meaning c.read-given.result)) c.say_form.ensures ∙ ap (put (say_form s.standing c.args.to.0)) c.read-given.ensures) in
+    let words : w.words ++ M (get u) (put (say_form s.standing c.args.to.0) (get u)) ∷ [] ≡ all_sent (vec_items c.push.new.self) = ap (λ v. w.words ++ M (get u) v ∷ []) form ∙ ap (λ m. w.words ++ M m (said c.put-spoken.result) ∷ []) (sym c.read-given.ensures) ∙ sym (ap all_sent c.in_ok-push.ensures.items ∙ map_push sent (vec_items c.args.self.now.words) _) in
     let F : World → Result World Verdict = λ x. Ok x in
     say_is w c.in-Some.at.place c.args.from.0 c.args.to.0 s u h.0 h.1 other a b ∙ ap (λ ws. F (W ws)) words ∙ ap F (sym c.moor.ensures)

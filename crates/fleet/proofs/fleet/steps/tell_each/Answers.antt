@@ -9,7 +9,7 @@ use Rattle.fleet.proofs.fleet.steps.tell_each.Goals as goal
 pub loop-listed-preserved : goal.loop-listed-preserved
 loop-listed-preserved c =
     let F : List Notice → List Notice = λ ns. ns ++ allowing c.args.level.0 (get_or c.args.boats.now c.loop-listed.listed-index (entry 0 0)) ∷ [] in
-    (each_more c.args.level.0 c.args.boats.now c.loop-listed.listed-index (entry 0 0) (vec_items c.args.notices.now) _ (search rules) (c.push-reserved.ensures.items ∙ ap F c.loop-listed.invariant.0), search rules, search rules)
+    (each_more c.args.level.0 c.args.boats.now c.loop-listed.listed-index (entry 0 0) (vec_items c.args.notices.now) _ (search rules) (c.push_reserved.ensures.items ∙ ap F c.loop-listed.invariant.0), search rules, search rules)
 
 pub returns : goal.returns
 returns c =

@@ -7,4 +7,4 @@ use Rattle.forms.proofs.name.Name.new.Goals as goal
 pub returns : goal.returns
 returns c =
     let G : List ℕ → Result (List ℕ) Verdict = λ l. Ok l in
-    ap G (take_at c.copy-from-slice.new.self _ (length c.args.name.now) (ap length c.copy-from-slice.ensures.after) ∙ c.copy-from-slice.ensures.after) ∙ sym (cond-false _ _ _ (le-ltb 40 (length c.args.name.now) (search rules)))
+    ap G (take_at c.copy_from_slice.new.self _ (length c.args.name.now) (ap length c.copy_from_slice.ensures.after) ∙ c.copy_from_slice.ensures.after) ∙ sym (cond-false _ _ _ (le-ltb 40 (length c.args.name.now) (search rules)))

@@ -9,11 +9,11 @@ use Rattle.harbours.proofs.harbour.opens.all_harbours.Goals as goal
 
 pub loop-record-preserved : goal.loop-record-preserved
 loop-record-preserved c =
-    ap (journal.every journal.harbour_reads) (filed_at c.args.journal.now c.loop-record.record-index c.record-item.result c.loop-record-test.true c.record-item.is) ∙ and_from _ _ (sym c.is-harbours.ensures ∙ c.if-not-is-harbours.false) c.loop-record.invariant
+    ap (journal.every journal.harbour_reads) (filed_at c.args.journal.now c.loop-record.record-index c.record-item.result c.loop-record-test.true c.record-item.is) ∙ and_from _ _ (sym c.is_harbours.ensures ∙ c.if-not-is_harbours.false) c.loop-record.invariant
 
-pub returns-then-not-is-harbours : goal.returns-then-not-is-harbours
-returns-then-not-is-harbours c =
-    sym (every_at journal.harbour_reads c.args.journal.now c.loop-record.record-index c.record-item.result c.loop-record-test.true c.record-item.is ∙ ap (λ t. journal.every journal.harbour_reads (filed (drop (c.loop-record.record-index + 1) c.args.journal.now)) && (t && journal.every journal.harbour_reads (filed (take c.loop-record.record-index c.args.journal.now)))) (sym c.is-harbours.ensures ∙ c.if-not-is-harbours.true) ∙ every_not (journal.every journal.harbour_reads (filed (drop (c.loop-record.record-index + 1) c.args.journal.now))) (journal.every journal.harbour_reads (filed (take c.loop-record.record-index c.args.journal.now))))
+pub returns-then-not-is_harbours : goal.returns-then-not-is_harbours
+returns-then-not-is_harbours c =
+    sym (every_at journal.harbour_reads c.args.journal.now c.loop-record.record-index c.record-item.result c.loop-record-test.true c.record-item.is ∙ ap (λ t. journal.every journal.harbour_reads (filed (drop (c.loop-record.record-index + 1) c.args.journal.now)) && (t && journal.every journal.harbour_reads (filed (take c.loop-record.record-index c.args.journal.now)))) (sym c.is_harbours.ensures ∙ c.if-not-is_harbours.true) ∙ every_not (journal.every journal.harbour_reads (filed (drop (c.loop-record.record-index + 1) c.args.journal.now))) (journal.every journal.harbour_reads (filed (take c.loop-record.record-index c.args.journal.now))))
 
 pub returns : goal.returns
 returns c = sym (sym (ap (λ l. journal.every journal.harbour_reads (filed l)) (take_all c.loop-record.record-index c.args.journal.now c.loop-record-test.false)) ∙ c.loop-record.invariant)

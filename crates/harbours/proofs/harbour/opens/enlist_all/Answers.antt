@@ -10,12 +10,12 @@ use Rattle.harbours.proofs.harbour.opens.enlist_all.Goals as goal
 
 pub loop-record-preserved : goal.loop-record-preserved
 loop-record-preserved c =
-    enlisted_more c.args.journal.now c.loop-record.record-index c.record-item.result (book c.loop-record.ledger) (book c.enlist.new.ledger) c.loop-record-test.true c.record-item.is c.loop-record.invariant c.in-ok-enlist.ensures
+    enlisted_more c.args.journal.now c.loop-record.record-index c.record-item.result (book c.loop-record.ledger) (book c.enlist.new.ledger) c.loop-record-test.true c.record-item.is c.loop-record.invariant c.in_ok-enlist.ensures
 
-pub returns-in-err-enlist : goal.returns-in-err-enlist
-returns-in-err-enlist c =
-    let p = err_from_is_err_and c.from-residual.result c.from-residual.ensures.1 in
-    rw (p.1, p.2) (barred_at c.args.journal.now c.loop-record.record-index c.record-item.result (book c.loop-record.ledger) (verdict c.in-err-enlist.field-0.0) c.requires c.loop-record-test.true c.record-item.is c.loop-record.invariant c.in-err-enlist.ensures.0)
+pub returns-in_err-enlist : goal.returns-in_err-enlist
+returns-in_err-enlist c =
+    let p = err_from_is_err_and c.from_residual.result c.from_residual.ensures.1 in
+    rw (p.1, p.2) (barred_at c.args.journal.now c.loop-record.record-index c.record-item.result (book c.loop-record.ledger) (verdict c.in_err-enlist.field-0.0) c.requires c.loop-record-test.true c.record-item.is c.loop-record.invariant c.in_err-enlist.ensures.0)
 
 pub returns : goal.returns
 returns c =

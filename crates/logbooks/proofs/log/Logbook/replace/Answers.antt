@@ -12,17 +12,17 @@ use Rattle.logbooks.proofs.Tables.{placed_set, rising_set}
 use Rattle.logbooks.proofs.log.Logbook.replace.Goals as goal
 use Rattle.std.specs.Ordering.{nat_cmp, ordering_then}
 
-pub invariant-of-self-2 : goal.invariant-of-self-2
-invariant-of-self-2 c =
+pub invariant_of-self-2-clause-sorted : goal.invariant_of-self-2-clause-sorted
+invariant_of-self-2-clause-sorted c =
     let u = btree-map-from-valid (λ x y. ordering_then (nat_cmp x.0 y.0) (nat_cmp x.1 y.1)) c.args.self.now.lasts c.args.self.now.lawful in
     let v = btree-map-inserts (λ x y. ordering_then (nat_cmp x.0 y.0) (nat_cmp x.1 y.1)) c.args.self.now.lasts c.insert.new.self (c.args.slot.from.0, c.args.slot.ship) c.args.last c.insert.result c.insert.ensures.inserted u in
     let e = ap (λ (k : Kept). k.ship) c.write.ensures in
-    (rising_set (vec_items c.args.self.now.slots) c.args.place c.write.new.slot (e ∙ sym c.requires.1) c.args.self.now.sorted, (search rules, (valid-from-btree-map (λ x y. ordering_then (nat_cmp x.0 y.0) (nat_cmp x.1 y.1)) c.insert.new.self v.0, tt)))
+    rising_set (vec_items c.args.self.now.slots) c.args.place c.write.new.slot (e ∙ sym c.requires.1) c.args.self.now.sorted
 
 pub returns : goal.returns
 returns c =
     let u = btree-map-from-valid (λ x y. ordering_then (nat_cmp x.0 y.0) (nat_cmp x.1 y.1)) c.args.self.now.lasts c.args.self.now.lawful in
-    let v = btree-map-inserts (λ x y. ordering_then (nat_cmp x.0 y.0) (nat_cmp x.1 y.1)) c.args.self.now.lasts c.insert.new.self (c.args.slot.from.0, c.args.slot.ship) c.args.last (Ok c.in-ok-insert.field-0) c.in-ok-insert.ensures.inserted u in
+    let v = btree-map-inserts (λ x y. ordering_then (nat_cmp x.0 y.0) (nat_cmp x.1 y.1)) c.args.self.now.lasts c.insert.new.self (c.args.slot.from.0, c.args.slot.ship) c.args.last (Ok c.in_ok-insert.field-0) c.in_ok-insert.ensures.inserted u in
     let ss = vec_items c.args.self.now.slots in
     let F : List Kept → (ℕ → ℕ → Option ℕ) → Result Log Verdict = λ l f. Ok (record { slots = l; lasts = f }) in
     let p : placed (kept c.args.slot) (kept_all ss) ≡ kept_all (set ss c.args.place c.write.new.slot) = placed_set c.args.slot ss c.args.place c.requires.0 c.requires.1 c.requires.2 ∙ map-set kept ss c.args.place c.args.slot ∙ ap (λ k. set (kept_all ss) c.args.place k) (sym c.write.ensures) ∙ sym (map-set kept ss c.args.place c.write.new.slot) in

@@ -12,7 +12,7 @@ use Rattle.logbooks.proofs.log.Logbook.take.Goals as goal
 pub returns-in-Ok : goal.returns-in-Ok
 returns-in-Ok c =
     let x : Log = log c.args.self.now in
-    let new : older (x.lasts c.args.from.0 (ship_of (said c.args.came))) c.args.number ≡ false = ap (λ s. older (x.lasts c.args.from.0 s) c.args.number) (sym c.ship-ship.ensures) ∙ sym c.is-older.ensures ∙ c.if-is-older.false in
+    let new : older (x.lasts c.args.from.0 (ship_of (said c.args.came))) c.args.number ≡ false = ap (λ s. older (x.lasts c.args.from.0 s) c.args.number) (sym c.ship-ship.ensures) ∙ sym c.is_older.ensures ∙ c.if-is_older.false in
     let h = c.in-Ok.ensures in
     let e = taking_known x c.args.from.0 c.args.number (said c.args.came) c.args.most.0 new (kept c.new-slot.result) c.new-slot.ensures (found (ship_of (said c.args.came)) (vec_items c.args.self.now.slots) c.in-Ok.place h.0 (h.1 ∙ c.ship-ship.ensures)) in
     subst (λ (want : Result Log Verdict). Tries want c.replace.result x (log c.replace.new.self)) (sym e) c.replace.ensures
@@ -20,7 +20,7 @@ returns-in-Ok c =
 pub returns-then-len-ge-MOST : goal.returns-then-len-ge-MOST
 returns-then-len-ge-MOST c =
     let x : Log = log c.args.self.now in
-    let new : older (x.lasts c.args.from.0 (ship_of (said c.args.came))) c.args.number ≡ false = ap (λ s. older (x.lasts c.args.from.0 s) c.args.number) (sym c.ship-ship.ensures) ∙ sym c.is-older.ensures ∙ c.if-is-older.false in
+    let new : older (x.lasts c.args.from.0 (ship_of (said c.args.came))) c.args.number ≡ false = ap (λ s. older (x.lasts c.args.from.0 s) c.args.number) (sym c.ship-ship.ensures) ∙ sym c.is_older.ensures ∙ c.if-is_older.false in
     let h = c.in-Err.ensures in
     let n = length-map (vec_items c.args.self.now.slots) kept in
     let f = absent c.ship-ship.result (vec_items c.args.self.now.slots) c.in-Err.place c.args.self.now.sorted h.0 h.1 h.2 in
@@ -30,7 +30,7 @@ returns-then-len-ge-MOST c =
 pub returns-else-len-ge-MOST : goal.returns-else-len-ge-MOST
 returns-else-len-ge-MOST c =
     let x : Log = log c.args.self.now in
-    let new : older (x.lasts c.args.from.0 (ship_of (said c.args.came))) c.args.number ≡ false = ap (λ s. older (x.lasts c.args.from.0 s) c.args.number) (sym c.ship-ship.ensures) ∙ sym c.is-older.ensures ∙ c.if-is-older.false in
+    let new : older (x.lasts c.args.from.0 (ship_of (said c.args.came))) c.args.number ≡ false = ap (λ s. older (x.lasts c.args.from.0 s) c.args.number) (sym c.ship-ship.ensures) ∙ sym c.is_older.ensures ∙ c.if-is_older.false in
     let n = length-map (vec_items c.args.self.now.slots) kept in
     let l : length (vec_items c.args.self.now.slots) < 4096 = search rules in
     let e = taking_new x c.args.from.0 c.args.number (said c.args.came) c.args.most.0 new (kept c.new-slot.result) c.new-slot.ensures (omega (arith, n, l)) in

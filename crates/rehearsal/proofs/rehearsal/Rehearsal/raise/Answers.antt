@@ -7,30 +7,30 @@ use Rattle.world.proofs.Rises.{reached_taken, reached_raised}
 use Rattle.rehearsal.proofs.Plans.{halted_first, halted_later}
 use Rattle.rehearsal.proofs.rehearsal.Rehearsal.raise.Goals as goal
 
-pub returns-in-err-events : goal.returns-in-err-events
-returns-in-err-events c =
-    let p = err_from_is_err_and c.from-residual.result c.from-residual.ensures.1 in
+pub returns-in_err-events : goal.returns-in_err-events
+returns-in_err-events c =
+    let p = err_from_is_err_and c.from_residual.result c.from_residual.ensures.1 in
     record {
-      raised = rw (p.1, p.2) (halted_first c.args.level.0 (world c.args.self.now.fleet) _ c.in-err-events.ensures);
+      raised = rw (p.1, p.2) (halted_first c.args.level.0 (world c.args.self.now.fleet) _ c.in_err-events.ensures);
       promises = promises_reached (world c.args.self.now.fleet) c.args.self.now.reached;
     }
 
-pub play-all-requires : goal.play-all-requires
+pub play-all-requires : goal.play_all-requires
 play-all-requires c =
-    ap (taken (world c.args.self.now.fleet)) c.as-slice.ensures.value ∙ reached_taken c.args.level.0 (world c.args.self.now.fleet) (vec_items c.in-ok-events.events) c.args.self.now.reached c.in-ok-events.ensures
+    ap (taken (world c.args.self.now.fleet)) c.as_slice.ensures.value ∙ reached_taken c.args.level.0 (world c.args.self.now.fleet) (vec_items c.in_ok-events.events) c.args.self.now.reached c.in_ok-events.ensures
 
-pub returns-in-err-play-all : goal.returns-in-err-play-all
-returns-in-err-play-all c =
-    let p = err_from_is_err_and c.from-residual-in-err-play-all.result c.from-residual-in-err-play-all.ensures.1 in
-    let t = c.in-err-play-all.ensures in
+pub returns-in_err-play_all : goal.returns-in_err-play_all
+returns-in_err-play_all c =
+    let p = err_from_is_err_and c.from_residual-in_err-play_all.result c.from_residual-in_err-play_all.ensures.1 in
+    let t = c.in_err-play_all.ensures in
     record {
-      raised = rw (p.1, p.2) (halted_later c.args.level.0 (world c.args.self.now.fleet) (world c.play-all.new.self.fleet) _ c.as-slice.result.now (vec_items c.in-ok-events.events) t.1.0 c.in-ok-events.ensures c.as-slice.ensures.value t.0 t.1.1);
-      promises = promises_reached (world c.play-all.new.self.fleet) c.play-all.new.self.reached;
+      raised = rw (p.1, p.2) (halted_later c.args.level.0 (world c.args.self.now.fleet) (world c.play_all.new.self.fleet) _ c.as_slice.result.now (vec_items c.in_ok-events.events) t.1.0 c.in_ok-events.ensures c.as_slice.ensures.value t.0 t.1.1);
+      promises = promises_reached (world c.play_all.new.self.fleet) c.play_all.new.self.reached;
     }
 
 pub returns : goal.returns
 returns c =
     record {
-      raised = reached_raised c.args.level.0 (world c.args.self.now.fleet) (vec_items c.in-ok-events.events) c.args.self.now.reached c.in-ok-events.ensures (world c.play-all.new.self.fleet) c.as-slice.result.now c.as-slice.ensures.value c.in-ok-play-all.ensures;
-      promises = promises_reached (world c.play-all.new.self.fleet) c.play-all.new.self.reached;
+      raised = reached_raised c.args.level.0 (world c.args.self.now.fleet) (vec_items c.in_ok-events.events) c.args.self.now.reached c.in_ok-events.ensures (world c.play_all.new.self.fleet) c.as_slice.result.now c.as_slice.ensures.value c.in_ok-play_all.ensures;
+      promises = promises_reached (world c.play_all.new.self.fleet) c.play_all.new.self.reached;
     }

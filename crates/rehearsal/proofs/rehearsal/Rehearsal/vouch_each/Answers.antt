@@ -11,7 +11,7 @@ use Rattle.fleet.specs.Fleets.{world}
 use Rattle.world.specs.Rising.{vouch, vouching}
 use Rattle.rehearsal.proofs.Plans.{pushed, finished}
 use Rattle.rehearsal.proofs.rehearsal.Rehearsal.vouch_each.Goals as goal
-use Rattle.rehearsal.proofs.rehearsal.Rehearsal.vouch_each.Goals.{then-listed-level+in-ok-vouch-one, else-listed-level}
+use Rattle.rehearsal.proofs.rehearsal.Rehearsal.vouch_each.Goals.{then-listed-level+in_ok-vouch_one, else-listed-level}
 
 pub loop-listed-preserved : goal.loop-listed-preserved
 loop-listed-preserved c =
@@ -25,9 +25,9 @@ loop-listed-preserved c =
     let new : List Event = vouch w k e.boat ∷ BringNotice n ∷ BringNotice (n + 1) ∷ [] in
     let s = at_drop_more left list c.loop-listed.listed-index (entry 0 0) c.loop-listed-test.true in
     elim c.if-listed-level.branch [
-      | then-listed-level+in-ok-vouch-one x ↦
+      | then-listed-level+in_ok-vouch_one x ↦
           (let F : ℕ → List Event = λ m. vec_items c.if-listed-level.events ++ vouching w k rest m in
-          (ap F x.next-is ∙ ap (λ v. vec_items v ++ vouching w k rest (n + 2)) x.events-is ∙ pushed (vec_items c.loop-listed.events) (vec_items x.vouch-one.new.events) new (vouching w k rest (n + 2)) _ _ x.in-ok-vouch-one.ensures (s ∙ cond-true _ _ _ (lt-ltb _ _ x.if-listed-level.true)) c.loop-listed.invariant.0, omega (arith, x.next-is, c.loop-listed.invariant.1)))
+          (ap F x.next-is ∙ ap (λ v. vec_items v ++ vouching w k rest (n + 2)) x.events-is ∙ pushed (vec_items c.loop-listed.events) (vec_items x.vouch_one.new.events) new (vouching w k rest (n + 2)) _ _ x.in_ok-vouch_one.ensures (s ∙ cond-true _ _ _ (lt-ltb _ _ x.if-listed-level.true)) c.loop-listed.invariant.0, omega (arith, x.next-is, c.loop-listed.invariant.1)))
       | else-listed-level x ↦
           (let F : ℕ → List Event = λ m. vec_items c.if-listed-level.events ++ vouching w k rest m in
           (ap F x.next-is ∙ ap (λ v. vec_items v ++ vouching w k rest n) x.events-is ∙ sym (ap (λ es. vec_items c.loop-listed.events ++ es) (s ∙ cond-false _ _ _ (le-ltb _ _ x.if-listed-level.false))) ∙ c.loop-listed.invariant.0, omega (arith, x.next-is, c.loop-listed.invariant.1)))
@@ -40,6 +40,6 @@ returns c =
     let list : List Entry = c.boats-boats.result.now in
     let same : list ≡ w.harbour.list = c.boats-boats.ensures in
     let left : List Entry → List Event = λ es. vouching w k es c.loop-listed.next in
-    let A : List Entry → List Event = λ es. vec_items c.args.events.now ++ vouching w k es (length c.as-slice-notices.result.now) in
+    let A : List Entry → List Event = λ es. vec_items c.args.events.now ++ vouching w k es (length c.as_slice-notices.result.now) in
     let B : List Notice → List Event = λ ns. vec_items c.args.events.now ++ vouching w k w.harbour.list (length ns) in
-    finished (vec_items c.loop-listed.events) _ _ (at_drop_all left list c.loop-listed.listed-index c.loop-listed-test.false) c.loop-listed.invariant.0 ∙ ap A same ∙ ap B c.as-slice-notices.ensures.value
+    finished (vec_items c.loop-listed.events) _ _ (at_drop_all left list c.loop-listed.listed-index c.loop-listed-test.false) c.loop-listed.invariant.0 ∙ ap A same ∙ ap B c.as_slice-notices.ensures.value

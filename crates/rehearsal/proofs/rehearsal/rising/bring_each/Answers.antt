@@ -12,7 +12,7 @@ pub loop-preserved : goal.loop-preserved
 loop-preserved c =
     let n : ℕ = c.loop.number in
     let left : List Entry → List Event = λ es. bringing es n in
-    (pushed (vec_items c.loop.events) (vec_items c.push.new.self) (BringNotice n ∷ []) (bringing (drop (c.loop.index + 1) c.args.boats.now) (n + 1)) _ _ c.in-ok-push.ensures.items (at_drop_more left c.args.boats.now c.loop.index (entry 0 0) c.loop-test.true) c.loop.invariant.0, omega (arith, c.loop.invariant.1))
+    (pushed (vec_items c.loop.events) (vec_items c.push.new.self) (BringNotice n ∷ []) (bringing (drop (c.loop.index + 1) c.args.boats.now) (n + 1)) _ _ c.in_ok-push.ensures.items (at_drop_more left c.args.boats.now c.loop.index (entry 0 0) c.loop-test.true) c.loop.invariant.0, omega (arith, c.loop.invariant.1))
 
 pub returns : goal.returns
 returns c =

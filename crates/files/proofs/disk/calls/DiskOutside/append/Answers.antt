@@ -9,5 +9,5 @@ returns c =
     let xs : List ℕ = vec_items c.args.self.now.bytes in
     let b : List ℕ = c.args.bytes.now in
     let l : n ≤ length xs = search rules in
-    let e : vec_items c.extend-from-slice.new.self ≡ xs ++ b = search rules in
+    let e : vec_items c.extend_from_slice.new.self ≡ xs ++ b = search rules in
     (sym c.running.ensures ∙ c.if-not-running.false, same_held (ap (take n) e ∙ take-append-le n xs b l) (ap (drop n) e ∙ drop-append-le n xs b l) refl c.spent-self.ensures)
