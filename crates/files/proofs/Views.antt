@@ -1,7 +1,7 @@
 -- A disk's file in its two parts.
 -- Assumes nothing.
 use Rattle.std.proofs.Common.{◌≡◌, ℕ, ◌+◌, ◌-◌, ◌<◌, ◌≤◌, List, [], ◌∷◌, ◌++◌, length, take, drop, Option, sym, refl, ap, ◌∙◌, arith}
-use Rattle.std.proofs.lemmas.List.{take_all, drop_all, take-take, drop_take, length-drop, length-take-le}
+use Rattle.std.proofs.lemmas.List.{take_all, drop_all, take-take, drop-take, length-drop, length-take-le}
 use Rattle.files.specs.Holdings.{Held}
 
 -- two that hold the same
@@ -10,7 +10,7 @@ same_held e f g h = λ i. record { synced = e i; pending = f i; sent = g i; budg
 
 -- the file cut to its first k bytes, none of them synced
 pub cut_pending : (n k : ℕ) (xs : List ℕ) → n ≤ k → drop n (take k xs) ≡ take (k - n) (drop n xs)
-cut_pending n k xs h = let e : k ≡ n + (k - n) = omega arith in ap (λ (j : ℕ). drop n (take j xs)) e ∙ drop_take n (k - n) xs
+cut_pending n k xs h = let e : k ≡ n + (k - n) = omega arith in ap (λ (j : ℕ). drop n (take j xs)) e ∙ drop-take n (k - n) xs
 
 pub all_pending : (n k : ℕ) (xs : List ℕ) → length xs - n ≤ k → drop n xs ≡ take k (drop n xs)
 all_pending n k xs h = sym (take_all k (drop n xs) (simp length-drop (omega arith)))

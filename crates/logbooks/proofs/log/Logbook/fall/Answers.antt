@@ -12,13 +12,13 @@ loop-slot-preserved c = search (rules, map_over_more bare)
 
 pub invariant_of-self-clause-sorted : goal.invariant_of-self-clause-sorted
 invariant_of-self-clause-sorted c =
-    let e = all_bare c.deref-mut-slot-items.result.now c.loop-slot.slot-items (vec_items c.args.self.now.slots) c.loop-slot.slot-index c.loop-slot-test.false c.deref-mut-slot-items.ensures.value c.loop-slot.invariant in
+    let e = all_bare c.deref_mut-slot-items.result.now c.loop-slot.slot-items (vec_items c.args.self.now.slots) c.loop-slot.slot-index c.loop-slot-test.false c.deref_mut-slot-items.ensures.value c.loop-slot.invariant in
     let n : length c.loop-slot.slot-items ≡ c.args.self.now.slots.len = search rules in
     ap rising (with_items_is c.args.self.now.slots c.loop-slot.slot-items n ∙ e) ∙ rising_bare (vec_items c.args.self.now.slots) ∙ c.args.self.now.sorted
 
 pub returns : goal.returns
 returns c =
-    let e = all_bare c.deref-mut-slot-items.result.now c.loop-slot.slot-items (vec_items c.args.self.now.slots) c.loop-slot.slot-index c.loop-slot-test.false c.deref-mut-slot-items.ensures.value c.loop-slot.invariant in
+    let e = all_bare c.deref_mut-slot-items.result.now c.loop-slot.slot-items (vec_items c.args.self.now.slots) c.loop-slot.slot-index c.loop-slot-test.false c.deref_mut-slot-items.ensures.value c.loop-slot.invariant in
     let F : List Kept → Log = λ l. record { slots = l; lasts = (log c.args.self.now).lasts } in
     let n : length c.loop-slot.slot-items ≡ c.args.self.now.slots.len = search rules in
     ap F (ap kept_all (with_items_is c.args.self.now.slots c.loop-slot.slot-items n ∙ e) ∙ kept_bare (vec_items c.args.self.now.slots))
