@@ -3,6 +3,8 @@
 use Rattle.std.specs.Prelude.{◌≡◌, Ok, Err, Result}
 use Rattle.levels.specs.declared.refusals.Refusal.{Refusal}
 use Rattle.levels.specs.Verdicts.{Verdict, Number, Bad, Memory, verdict}
+use Rattle.stations.specs.declared.unheard.Unheard.{Unheard}
+use Rattle.stations.specs.Unheards.{turned}
 
 -- a refusal is the one that is wanted; want of memory may come at any time
 abbrev pub Refuses : {A : Type 0} → Result A Verdict → Verdict → Type 0
@@ -14,3 +16,8 @@ Refuses want Memory = Unit {0}
 abbrev pub Attempts : {A B C : Type 0} → (C → B) → Result (B × A) Verdict → Result C Refusal → A → A → Type 0
 Attempts f want (Ok v) x y = want ≡ Ok (f v, y)
 Attempts f want (Err e) x y = Refuses want (verdict e) × (y ≡ x)
+
+-- the same where a message comes
+abbrev pub Heeds : {A B C : Type 0} → (C → B) → Result (B × A) Verdict → Result C Unheard → A → A → Type 0
+Heeds f want (Ok v) x y = want ≡ Ok (f v, y)
+Heeds f want (Err e) x y = Refuses want (turned e) × (y ≡ x)

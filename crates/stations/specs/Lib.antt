@@ -5,3 +5,4 @@ pub mod Harbours
 pub mod Steps
 pub mod Openings
 pub mod Laws
+pub mod Unheards

@@ -3,3 +3,4 @@
 
 pub mod laws;
 pub mod step;
+pub mod unheard;

@@ -8,7 +8,7 @@ ghost use Rattle.stations.specs.Harbours as spec;
 ghost use Rattle.runs.specs.Disks as disks;
 ghost use Rattle.runs.specs.Disks.{file};
 ghost use Rattle.runs.specs.Worlds.{port_after};
-ghost use Rattle.berths.specs.Calls.{Attempts};
+ghost use Rattle.berths.specs.Calls.{Attempts, Heeds};
 ghost use Rattle.berths.specs.Vessels.{afloat};
 ghost use Rattle.berths.specs.Ports.{port_of, called, begun, Built, sent_of};
 
@@ -22,6 +22,7 @@ use messages::Message;
 use records::Record;
 use runs::events::Fate;
 use stations::step::Step;
+use stations::unheard::Unheard;
 use std::alloc::Global;
 
 // The messages of a step, of which the first so many are sent.
@@ -63,11 +64,11 @@ impl Port {
     }
 
     // A message comes.
-    pub fn hear(&mut self, message: Message, fate: Fate) -> Result<Option<Message>, Refusal>
-        ensures { Attempts (option letter) (afloat (port_of self.old).running (λ x. called fate (port_of self.old) (spec.hearing x (letter message)))) result (port_of self.old) (port_of self.new) }
+    pub fn hear(&mut self, message: Message, fate: Fate) -> Result<Option<Message>, Unheard>
+        ensures { Heeds (option letter) (afloat (port_of self.old).running (λ x. called fate (port_of self.old) (spec.hearing x (letter message)))) result (port_of self.old) (port_of self.new) }
     {
         if !self.up {
-            return Err(Refusal::Invalid);
+            return Err(Unheard::Refused(Refusal::Invalid));
         }
         self.journal.reserve()?;
         let step = self.harbour.hear(message)?;

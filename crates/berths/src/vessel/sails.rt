@@ -9,7 +9,7 @@ ghost use Rattle.stations.specs.Deeds.{nothing, option};
 ghost use Rattle.runs.specs.Disks.{file, told};
 ghost use Rattle.runs.specs.Worlds.{vessel_after};
 ghost use Rattle.berths.specs.Disks.{disk};
-ghost use Rattle.berths.specs.Calls.{Attempts};
+ghost use Rattle.berths.specs.Calls.{Attempts, Heeds};
 ghost use Rattle.berths.specs.Vessels.{vessel_of, call_sign, afloat, stepped, begun, Built};
 
 use super::Vessel;
@@ -22,6 +22,7 @@ use levels::refusals::Refusal;
 use messages::Message;
 use runs::events::Fate;
 use stations::step::Step;
+use stations::unheard::Unheard;
 use std::alloc::Global;
 
 impl Vessel {
@@ -53,12 +54,12 @@ impl Vessel {
     }
 
     // A message comes.
-    pub fn hear(&mut self, message: Message, fate: Fate) -> Result<Option<Message>, Refusal>
-        ensures done { Attempts (option letter) (afloat (vessel_of self.old).running (λ m. stepped fate (vessel_of self.old) (spec.hearing (call_sign self.old) m (letter message)))) result (vessel_of self.old) (vessel_of self.new) }
+    pub fn hear(&mut self, message: Message, fate: Fate) -> Result<Option<Message>, Unheard>
+        ensures done { Heeds (option letter) (afloat (vessel_of self.old).running (λ m. stepped fate (vessel_of self.old) (spec.hearing (call_sign self.old) m (letter message)))) result (vessel_of self.old) (vessel_of self.new) }
         ensures same { call_sign self.new ≡ call_sign self.old }
     {
         if !self.up {
-            return Err(Refusal::Invalid);
+            return Err(Unheard::Refused(Refusal::Invalid));
         }
         self.journal.reserve()?;
         let step = self.boat.hear(message)?;

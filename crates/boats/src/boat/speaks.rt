@@ -6,6 +6,7 @@ ghost use Rattle.messages.specs.Messages.{letter, telling, notice};
 ghost use Rattle.stations.specs.Boats as spec;
 ghost use Rattle.boats.specs.Views.{memory, number_of};
 ghost use Rattle.stations.specs.Steps.{deed_of};
+ghost use Rattle.stations.specs.Unheards.{Hears};
 
 use super::Boat;
 use forms::word::Spoken;
@@ -15,6 +16,7 @@ use levels::rules::{accepts, reads};
 use messages::{Body, Message};
 use records::Record;
 use stations::step::Step;
+use stations::unheard::Unheard;
 
 // The harbour's number.
 const HARBOUR: BoatId = BoatId(0);
@@ -153,14 +155,14 @@ impl Boat {
     }
 
     // A message comes. One for another station is passed over; words come from boats, answers and levels from the harbour, and anything else is turned away.
-    pub fn hear(&mut self, message: Message) -> Result<Step, Refusal>
-        ensures done { Performs deed_of (spec.hearing (number_of self.old) (memory self.old) (letter message)) result (memory self.old) (memory self.new) }
+    pub fn hear(&mut self, message: Message) -> Result<Step, Unheard>
+        ensures done { Hears deed_of (spec.hearing (number_of self.old) (memory self.old) (letter message)) result (memory self.old) (memory self.new) }
         ensures same { number_of self.new ≡ number_of self.old }
     {
         if !accepts(self.number, message.to) {
-            return Err(Refusal::Elsewhere);
+            return Err(Unheard::Elsewhere);
         }
-        self.judge(message.from, message.number, message.body)
+        Ok(self.judge(message.from, message.number, message.body)?)
     }
 
     // What it does with a message that is for it.

@@ -8,6 +8,7 @@ ghost use Rattle.messages.specs.Messages.{letter, telling};
 ghost use Rattle.stations.specs.Harbours as spec;
 ghost use Rattle.harbours.specs.Views.{book_of};
 ghost use Rattle.stations.specs.Steps.{deed_of, call_of};
+ghost use Rattle.stations.specs.Unheards.{Hears};
 
 use super::Harbour;
 use ledger::book::{Entry, Ledger};
@@ -17,6 +18,7 @@ use levels::rules::accepts;
 use messages::{Body, Message};
 use records::Record;
 use stations::step::{Call, Step};
+use stations::unheard::Unheard;
 use std::alloc::{AllocError, Global};
 
 // The harbour's number.
@@ -136,13 +138,13 @@ impl Harbour {
     }
 
     // A message comes. One for another station is passed over.
-    pub fn hear(&mut self, message: Message) -> Result<Step, Refusal>
-        ensures { Performs deed_of (spec.hearing (book_of self.old) (letter message)) result (book_of self.old) (book_of self.new) }
+    pub fn hear(&mut self, message: Message) -> Result<Step, Unheard>
+        ensures { Hears deed_of (spec.hearing (book_of self.old) (letter message)) result (book_of self.old) (book_of self.new) }
     {
         if !accepts(HARBOUR, message.to) {
-            return Err(Refusal::Elsewhere);
+            return Err(Unheard::Elsewhere);
         }
-        self.judge(message.from, message.body)
+        Ok(self.judge(message.from, message.body)?)
     }
 
     // Says a level that all of the list have promised, to each of them.
