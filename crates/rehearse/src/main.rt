@@ -59,7 +59,7 @@ fn arguments(rt: &HostRuntime) -> Asked {
 fn run(rt: &HostRuntime) -> io::Result<()> {
     let heap = rt.alloc();
     let mut input = BufReader::new(heap, rt.stdin())?;
-    let mut stage = Stage::new(heap, rt.stdout());
+    let mut stage = Stage::new(heap, rt.stdout())?;
     for _ in 0..u64::MAX {
         let Some(line) = next_line(heap, &mut input)? else {
             break;

@@ -20,12 +20,12 @@ pub struct Stage {
 
 impl Stage {
     // A stage with no boats yet.
-    pub(crate) fn new(heap: Global, out: Stdout) -> Stage {
-        Stage {
+    pub(crate) fn new(heap: Global, out: Stdout) -> io::Result<Stage> {
+        Ok(Stage {
             heap,
             player: None,
-            out: BufWriter::new(out),
-        }
+            out: BufWriter::new(heap, out)?,
+        })
     }
 
     // Prints the answer to a line.

@@ -9,8 +9,8 @@ overflow_mul-first c = let m = behind_most c.args.level.0 c.boats-boats.result.n
 pub overflow_add-first : goal.overflow_add-first
 overflow_add-first c = let m = behind_most c.args.level.0 c.boats-boats.result.now in search rules
 
-pub bring-each-requires : goal.bring_each-requires
-bring-each-requires c = let m = behind_most c.args.level.0 c.boats-boats.result.now in search rules
+pub bring_each-requires : goal.bring_each-requires
+bring_each-requires c = let m = behind_most c.args.level.0 c.boats-boats.result.now in search rules
 
 pub returns : goal.returns
 returns c =

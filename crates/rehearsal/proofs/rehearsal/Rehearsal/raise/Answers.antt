@@ -15,8 +15,8 @@ returns-in_err-events c =
       promises = promises_reached (world c.args.self.now.fleet) c.args.self.now.reached;
     }
 
-pub play-all-requires : goal.play_all-requires
-play-all-requires c =
+pub play_all-requires : goal.play_all-requires
+play_all-requires c =
     ap (taken (world c.args.self.now.fleet)) c.as_slice.ensures.value ∙ reached_taken c.args.level.0 (world c.args.self.now.fleet) (vec_items c.in_ok-events.events) c.args.self.now.reached c.in_ok-events.ensures
 
 pub returns-in_err-play_all : goal.returns-in_err-play_all
