@@ -1,12 +1,12 @@
 -- Files of records, the newest first, and what is cut off them.
 -- Assumes nothing.
-use Rattle.std.proofs.Common.{◌≡◌, ℕ, ◌+◌, ◌-◌, ◌<◌, ◌≤◌, List, [], ◌∷◌, ◌++◌, map, reverse, length, take, drop, sym, refl, ap, ◌∙◌, arith, length-drop, take-append-drop, length-take, take-take, take-add, drop_at}
+use Rattle.std.proofs.Common.{◌≡◌, ℕ, ◌+◌, ◌-◌, ◌≤◌, List, [], ◌∷◌, ◌++◌, map, reverse, length, take, drop, sym, refl, ap, ◌∙◌, arith, length-drop, take-append-drop, length-take, take-take, take-add, drop_at}
 use lib.Seq.{take-length, drop-length, take-append-le, drop-append-le}
 use Rattle.std.proofs.lemmas.List.{length-map, length-reverse, map-append, reverse-append}
 use Rattle.records.specs.declared.Record.{Record}
 use Rattle.records.specs.Records.{Written, written}
 use Rattle.stations.specs.Steps.{filed}
-use Rattle.runs.specs.Disks.{Disk, file, appended, flushed, shortened}
+use Rattle.runs.specs.Disks.{Disk, appended, flushed, shortened}
 
 -- a file by its synced part, n records, and the rest
 abbrev pub parts : ℕ → List Record → Disk

@@ -1,6 +1,6 @@
 -- The code's file as a disk of records.
 -- Assumes nothing.
-use Rattle.std.specs.Prelude.{ℕ, ◌<◌, min, Bool, List, take, drop, Ok, Err, vec_items, vec_len, vec_capacity, Result}
+use Rattle.std.specs.Prelude.{ℕ, ◌<◌, min, Bool, take, drop, Ok, Err, vec_items, vec_len, vec_capacity, Result}
 use Rattle.levels.specs.declared.refusals.Refusal.{Refusal}
 use Rattle.stations.specs.Steps.{filed}
 use Rattle.runs.specs.declared.events.Fate.{Fate}

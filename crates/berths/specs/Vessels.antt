@@ -2,7 +2,7 @@
 -- Assumes nothing.
 use Rattle.std.specs.Prelude.{◌≡◌, ℕ, true, false, cond, List, Some, None, Ok, Err, Option, Result, ◌==◌}
 use Rattle.levels.specs.declared.refusals.Refusal.{Refusal}
-use Rattle.levels.specs.Verdicts.{Verdict, Number, Bad, Memory as NoMemory, verdict}
+use Rattle.levels.specs.Verdicts.{Verdict, Bad, Memory as NoMemory, verdict}
 use Rattle.messages.specs.Messages.{Letter}
 use Rattle.boats.specs.Views.{memory, number_of}
 use Rattle.stations.specs.Boats.{Memory}

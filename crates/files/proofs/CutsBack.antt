@@ -1,13 +1,13 @@
 -- What a cut leaves of a file of records.
 -- Assumes nothing.
-use Rattle.std.proofs.Common.{◌≡◌, ℕ, ◌+◌, ◌-◌, ◌<◌, ◌≤◌, Bool, true, false, cond, eqb, leb, ◌⊎◌, List, [], ◌∷◌, ◌++◌, length, take, drop, Some, None, Option, sym, refl, ap, ◌∙◌, subst, inl, inr, ⊎_elim, arith}
+use Rattle.std.proofs.Common.{◌≡◌, ℕ, ◌+◌, ◌-◌, ◌<◌, ◌≤◌, Bool, true, false, cond, eqb, leb, List, [], ◌∷◌, ◌++◌, length, take, drop, Some, Option, sym, refl, ap, ◌∙◌, ⊎_elim, arith}
 use lib.Seq.{take-nil, take-append-add}
 use Rattle.std.specs.Option.{option_map}
 use Rattle.std.proofs.lemmas.List.{append_assoc, append-nil, take_at, drop_at, take_all, take-append-le}
 use Rattle.std.proofs.lemmas.Bool.Decides.{eqb_tells, leb_tells}
 use Rattle.files.specs.declared.front.Front.{Front}
-use Rattle.files.specs.declared.front.Front.TheVariants.{Whole, Short, Wrong}
-use Rattle.files.specs.Recovery.{records, together, AllKnown, wholes, CutLast, CutAnywhere, CutsBack}
+use Rattle.files.specs.declared.front.Front.TheVariants.{Whole, Short}
+use Rattle.files.specs.Recovery.{records, together, wholes, CutLast, CutAnywhere, CutsBack}
 use Rattle.files.proofs.Scans.{Within, records_whole, records_short, records_none}
 
 abbrev Chunks : Type 0

@@ -1,11 +1,9 @@
 -- Every record is seen as one whole record.
 -- Assumes nothing.
-use Rattle.std.proofs.Common.{◌≡◌, ℕ, ◌+◌, ◌≤◌, Bool, true, false, cond, eqb, ltb, leb, List, [], ◌∷◌, ◌++◌, length, sym, refl, ap, ◌∙◌, arith}
+use Rattle.std.proofs.Common.{◌≡◌, ℕ, length, refl, arith}
 use Rattle.std.proofs.lemmas.Bool.{cond-true}
-use Rattle.std.proofs.lemmas.Bool.Decides.{nat_tests}
 use Rattle.forms.specs.Meaning.{Uttered, first, second, third}
-use Rattle.files.specs.declared.front.Front.{Front}
-use Rattle.files.specs.declared.front.Front.TheVariants.{Whole, Short, Wrong}
+use Rattle.files.specs.declared.front.Front.TheVariants.{Whole}
 use Rattle.files.specs.Records.{boat_front, harbour_front}
 use Rattle.files.specs.Shapes.{named_whole}
 use Rattle.files.specs.Encodings.{BoatRecord, floor, level, word, used, HarbourRecord, boat, said, boat_bytes, harbour_bytes, Readable, AllSeen}

@@ -1,6 +1,6 @@
 -- What a step and an opening leave, wherever they stop.
 -- Assumes nothing.
-use Rattle.std.proofs.Common.{◌≡◌, ℕ, zero, suc, ◌+◌, ◌-◌, ◌<◌, ◌≤◌, Bool, true, false, ◌⊎◌, List, [], ◌∷◌, ◌++◌, map, length, take, IfOk, Ok, Err, vec_items, Result, Vec, sym, refl, ap, ◌∙◌, subst, inl, inr, ⊎_elim, suc-le-suc, zero-le, not-suc-le-zero, arith}
+use Rattle.std.proofs.Common.{◌≡◌, ℕ, zero, suc, ◌+◌, ◌-◌, ◌<◌, ◌≤◌, List, [], ◌∷◌, ◌++◌, map, length, take, IfOk, Ok, Err, vec_items, Result, Vec, sym, refl, ap, ◌∙◌, subst, inl, inr, ⊎_elim, suc-le-suc, zero-le, not-suc-le-zero, arith}
 use lib.Seq.{take-nil, take-append-add}
 use Rattle.std.proofs.lemmas.List.{append-nil, append_assoc, take_all}
 use Rattle.std.proofs.lemmas.Bool.{and_parts, leb-true, lt-ltb, cond-true}
@@ -9,7 +9,7 @@ use Rattle.files.specs.Effects.{Effect, Append, Sync, Send, CutBack}
 use Rattle.files.specs.Plans.{Done, Stopped, Performs, sends, stepping, opening}
 use Rattle.files.specs.Holdings.{Held, file, after, Did, ran, Ran, ended, cut_to}
 use Rattle.files.specs.Disks.{held, DiskDid}
-use Rattle.files.specs.Falls.{AllSafe, Finished, Settled, Fallen, Stepped, Opened}
+use Rattle.files.specs.Falls.{Finished, Settled, Fallen, Stepped, Opened}
 
 -- from the disk to what it holds
 lift_done : (es : List Effect) (s t : Disk) → Done DiskDid es s t → Done Did es (held s) (held t)

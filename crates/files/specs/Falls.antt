@@ -1,6 +1,6 @@
 -- What a step and an opening leave of a disk, wherever they stop, and what a fall leaves of that.
 -- Assumes nothing.
-use Rattle.std.specs.Prelude.{◌≡◌, ℕ, ◌<◌, ◌⊎◌, List, [], ◌∷◌, ◌++◌, length, take}
+use Rattle.std.specs.Prelude.{◌≡◌, ℕ, ◌<◌, ◌⊎◌, List, [], ◌++◌, length, take}
 use Rattle.files.specs.Holdings.{Held, file, ended, cut_to}
 
 -- all that was on the file and these bytes are safe

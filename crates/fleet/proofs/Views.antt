@@ -1,15 +1,15 @@
 -- What the code's lists are in the world.
 -- Assumes nothing.
-use Rattle.std.proofs.Common.{◌≡◌, ℕ, zero, suc, ◌+◌, ◌-◌, ◌<◌, ◌≤◌, Bool, true, false, cond, ◌&&◌, leb, ◌⊎◌, List, [], ◌∷◌, ◌++◌, map, length, get_or, take, set, Some, None, vec_items, Option, sym, refl, ap, ◌∙◌, inl, inr, append_assoc, le_of_suc-le-suc, not-suc-le-zero, arith}
+use Rattle.std.proofs.Common.{◌≡◌, ℕ, ◌+◌, ◌-◌, ◌<◌, ◌≤◌, ◌⊎◌, List, [], ◌∷◌, ◌++◌, map, length, get_or, take, Some, None, vec_items, sym, ap, ◌∙◌, inl, inr, append_assoc, arith}
 use Rattle.std.proofs.lemmas.Bool.{and_from, and_left, and_right, le-leb, lt-leb, cond-true, cond-false}
-use Rattle.std.proofs.lemmas.List.{length-map, map-set, map_push, get_or-map, take_more}
+use Rattle.std.proofs.lemmas.List.{length-map, map_push, get_or-map, take_more}
 use Rattle.fleet.specs.declared.fleet.Vessel.{Vessel}
 use Rattle.fleet.specs.declared.fleet.Fleet.{Fleet}
 use Rattle.logbooks.specs.declared.log.Logbook.{Logbook}
 use Rattle.logbooks.specs.Logs.{log, empty}
 use Rattle.ledger.specs.declared.book.Entry.{Entry}
 use Rattle.world.specs.declared.messages.Notice.{Notice}
-use Rattle.world.specs.Worlds.{allowing, to_each, BoatState, World, fresh, place_of, state_at, log_at}
+use Rattle.world.specs.Worlds.{allowing, to_each, fresh, place_of, state_at, log_at}
 use Rattle.fleet.specs.Fleets.{world, state}
 
 -- a boat that there is not, and one that there is

@@ -1,13 +1,13 @@
 -- What saying and hearing a word come to in the world.
 -- Assumes nothing.
-use Rattle.std.proofs.Common.{◌≡◌, ℕ, zero, suc, ◌+◌, ◌<◌, ◌≤◌, Bool, true, false, cond, not, ◌&&◌, eqb, ltb, leb, List, [], ◌∷◌, ◌++◌, map, length, get_or, set, is_some, is_ok, Some, None, Ok, Err, vec_items, Option, Result, sym, refl, ap, ◌∙◌, subst, arith}
+use Rattle.std.proofs.Common.{◌≡◌, ℕ, zero, suc, ◌+◌, ◌<◌, ◌≤◌, true, false, cond, not, ◌&&◌, eqb, leb, List, [], ◌∷◌, length, get_or, set, is_some, Some, None, Ok, Err, vec_items, Option, Result, sym, refl, ap, ◌∙◌, arith}
 use Rattle.std.proofs.lemmas.List.{length-map, get_or-map}
 use Rattle.std.proofs.lemmas.Bool.{lt-ltb, le-ltb, cond-true, cond-false}
 use Rattle.levels.specs.declared.refusals.Refusal.{Refusal}
 use Rattle.levels.specs.Verdicts.{Verdict, Number, Bad, Memory, verdict, Due, Tries}
 use Rattle.levels.specs.Rules.{reads}
 use Rattle.forms.specs.Meaning.{Uttered, form_of}
-use Rattle.logbooks.specs.Logs.{Log, log, empty}
+use Rattle.logbooks.specs.Logs.{Log, empty}
 use Rattle.world.specs.declared.messages.Sent.{Sent}
 use Rattle.fleet.specs.declared.fleet.Berth.{Berth}
 use Rattle.fleet.specs.declared.fleet.Fleet.{Fleet}

@@ -1,10 +1,10 @@
 -- The laws of putting into a form and reading.
 -- Assumes nothing.
-use Rattle.std.proofs.Common.{◌≡◌, ℕ, ◌<◌, ◌≤◌, min, Bool, true, false, cond, leb, sym, refl, ap, ◌∙◌, arith}
+use Rattle.std.proofs.Common.{◌≡◌, ℕ, ◌≤◌, min, sym, refl, ap, ◌∙◌, arith}
 use Rattle.std.proofs.lemmas.Bool.Decides.{nat_tests}
 use Rattle.levels.specs.Rules.{newest}
 use Rattle.forms.specs.Shows.{showing_of, ShowsItsForm}
-use Rattle.forms.specs.Meaning.{Meaning, Uttered, first, second, third, form_of, put, get, without, PutThenGet, PutTwice, PutDown, OlderForgets, PutForm, GetThenPut, Laws}
+use Rattle.forms.specs.Meaning.{Meaning, first, second, third, put, get, without, PutThenGet, PutTwice, PutDown, OlderForgets, PutForm, GetThenPut, Laws}
 
 put_then_get : PutThenGet
 put_then_get f w = grind (arith, nat_tests)

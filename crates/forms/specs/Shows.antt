@@ -5,7 +5,7 @@ use Rattle.levels.specs.Rules.{newest}
 use Rattle.forms.specs.declared.name.Name.{Name}
 use Rattle.forms.specs.declared.shown.Shown.{Shown}
 use Rattle.forms.specs.Names.{name_of}
-use Rattle.forms.specs.Meaning.{Meaning, Uttered, form_of, get, put, without}
+use Rattle.forms.specs.Meaning.{Meaning, Uttered, form_of, get, put}
 
 -- what stands on the screen
 pub record View : Type 0 where

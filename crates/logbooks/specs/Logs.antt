@@ -1,6 +1,6 @@
 -- What a boat keeps of the words that it takes.
 -- Assumes nothing.
-use Rattle.std.specs.Prelude.{ℕ, max, Bool, true, false, cond, not, ◌&&◌, List, [], ◌∷◌, map, length, is_some, Some, None, Ok, Err, vec_items, Option, Result, ◌==◌, nat_le, nat_lt}
+use Rattle.std.specs.Prelude.{ℕ, max, Bool, false, cond, not, ◌&&◌, List, [], ◌∷◌, map, length, is_some, Some, None, Ok, Err, vec_items, Option, Result, ◌==◌, nat_le, nat_lt}
 use Rattle.std.specs.BTreeMap.{get}
 use Rattle.levels.specs.Verdicts.{Verdict, Number}
 use Rattle.forms.specs.Meaning.{Uttered, ship_of}

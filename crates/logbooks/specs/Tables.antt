@@ -1,6 +1,6 @@
 -- The table of slots: the ships' numbers rise.
 -- Assumes nothing.
-use Rattle.std.specs.Prelude.{◌≡◌, ℕ, ◌<◌, ◌≤◌, Bool, true, cond, ◌&&◌, List, [], ◌∷◌, length, None, Ok, Err, Result, nat_lt, slice_index_or}
+use Rattle.std.specs.Prelude.{◌≡◌, ℕ, ◌<◌, ◌≤◌, Bool, true, ◌&&◌, List, [], ◌∷◌, length, None, Ok, Err, Result, nat_lt, slice_index_or}
 use Rattle.forms.specs.declared.word.Spoken.TheVariants.{First}
 use Rattle.logbooks.specs.declared.slot.Slot.{Slot}
 

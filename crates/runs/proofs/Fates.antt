@@ -1,13 +1,13 @@
 -- What is left of a disk after a step, whatever its fate; and when its messages are sent.
 -- Assumes nothing.
-use Rattle.std.proofs.Common.{◌≡◌, ℕ, zero, suc, ◌-◌, ◌<◌, ◌≤◌, Bool, true, false, cond, ltb, List, [], ◌∷◌, ◌++◌, length, take, drop, sym, refl, ap, ◌∙◌, subst, arith}
-use Rattle.std.proofs.lemmas.Bool.{cond_both, ltb-true, ltb-false}
+use Rattle.std.proofs.Common.{◌≡◌, ℕ, zero, suc, ◌-◌, Bool, true, false, cond, ltb, List, [], ◌∷◌, ◌++◌, length, take, drop, sym, refl, ap, subst, arith}
+use Rattle.std.proofs.lemmas.Bool.{cond_both, ltb-true}
 use Rattle.records.specs.Records.{Written}
 use Rattle.runs.specs.declared.events.Fate.{Fate}
 use Rattle.runs.specs.declared.events.Fate.TheVariants.{Whole, Killed, Cut}
 use Rattle.runs.specs.Disks.{Disk, file, appended, flushed, reached, spoken, shortened, after, told}
 use Rattle.runs.specs.Worlds.{writes}
-use Rattle.runs.proofs.Parts.{Part, same, more, part_then, part_behind, part_append, part_drop, Each, each_take}
+use Rattle.runs.proofs.Parts.{Part, same, part_then, part_behind, part_append, part_drop, Each, each_take}
 
 -- a step syncs, or it writes nothing and nothing waits for a sync
 pub data Kind (d : Disk) : Bool → List Written → Type 0 where

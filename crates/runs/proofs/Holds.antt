@@ -1,7 +1,6 @@
 -- The invariant of the fleet of records, and that a step keeps it, whatever its fate.
 -- Assumes nothing.
-use Rattle.std.proofs.Common.{◌≡◌, ℕ, zero, suc, ◌<◌, ◌≤◌, Bool, true, false, cond, ◌&&◌, ◌||◌, eqb, ltb, leb, ◌⊎◌, List, [], ◌∷◌, ◌++◌, length, Some, None, Ok, Err, Option, Result, sym, refl, ap, ◌∙◌, subst, inl, inr, append_assoc, append-nil, arith}
-use mathlib.Core.List.{Memᴰ}
+use Rattle.std.proofs.Common.{◌≡◌, ℕ, ◌<◌, ◌≤◌, Bool, true, ◌&&◌, leb, ◌⊎◌, List, [], ◌∷◌, ◌++◌, length, Some, None, Ok, Err, Option, Result, sym, refl, ap, ◌∙◌, subst, append_assoc, append-nil, arith}
 use Rattle.std.proofs.lemmas.Bool.{false≢true}
 use Rattle.levels.specs.Verdicts.{Verdict}
 use Rattle.ledger.specs.Ledgers.{Book}
@@ -17,9 +16,9 @@ use Rattle.stations.specs.Harbours as harbours
 use Rattle.runs.specs.declared.events.Fate.{Fate}
 use Rattle.runs.specs.declared.events.Fate.TheVariants.{Whole, Killed, Cut}
 use Rattle.runs.specs.Disks.{Disk, file, appended, after, told}
-use Rattle.runs.specs.Worlds.{World, Vessel, Port, Said, start, put_at, there, vessel_after, port_after, boat_does, harbour_does, speaks}
-use Rattle.runs.specs.Promises.{safe, safe_port, Listed, heard_of, Backed, Above, Once, none, more}
-use Rattle.runs.proofs.Parts.{put_each, put_here, Part, same, part_then, part_behind, part_top, Lawful, part_lawful, Each, each_map, each_both, each_of}
+use Rattle.runs.specs.Worlds.{World, Vessel, Port, Said, start, put_at, vessel_after, port_after, boat_does, harbour_does, speaks}
+use Rattle.runs.specs.Promises.{safe, safe_port, Listed, heard_of, Backed, Once, none, more}
+use Rattle.runs.proofs.Parts.{put_each, put_here, Part, same, part_then, part_top, Lawful, part_lawful, Each, each_map, each_both, each_of}
 use Rattle.runs.proofs.Fates.{Kind, syncs, quiet, After, after_step, told_each_lem, told_one}
 use Rattle.runs.proofs.Lists.{heard_up, listed_up}
 

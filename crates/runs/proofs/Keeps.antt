@@ -1,38 +1,35 @@
 -- What is promised follows from the invariant.
 -- Assumes nothing.
-use Rattle.std.proofs.Common.{◌≡◌, ℕ, zero, suc, ◌<◌, ◌≤◌, min, max, Bool, true, false, cond, not, ◌&&◌, ◌||◌, eqb, ltb, leb, ◌⊎◌, List, [], ◌∷◌, ◌++◌, length, get_or, drop, is_some, is_ok, Some, None, Ok, Err, Option, Result, sym, refl, ap, ◌∙◌, subst, inl, inr, append_assoc, arith}
+use Rattle.std.proofs.Common.{◌≡◌, ℕ, ◌<◌, ◌≤◌, Bool, true, false, cond, not, ◌&&◌, eqb, ltb, leb, ◌⊎◌, List, [], ◌∷◌, length, get_or, drop, is_some, is_ok, Some, None, Ok, Err, Option, Result, sym, refl, ap, ◌∙◌, subst, inl, inr, append_assoc, arith}
 use mathlib.Core.List.Memᴰ
 use mathlib.Core.List.{Memᴰ}
-use Rattle.std.proofs.lemmas.Bool.{cond_both, cond-true, cond-false, eq-eqb, ltb-true, ltb-false, lt-ltb, le-leb, leb-true, leb-false, and_parts, and_from, true≢false, false≢true}
+use Rattle.std.proofs.lemmas.Bool.{cond_both, cond-true, cond-false, eq-eqb, ltb-false, lt-ltb, le-leb, leb-true, and_parts, and_from, true≢false, false≢true}
 use Rattle.std.proofs.lemmas.Bool.Decides.{nat_tests}
 use Rattle.levels.specs.Verdicts.{Verdict, Number, Bad}
-use Rattle.levels.specs.Rules.{Boat, reads, newest, keep_form}
+use Rattle.levels.specs.Rules.{reads, keep_form}
 use Rattle.ledger.specs.Ledgers.{Book}
 use Rattle.ledger.proofs.Books.{both}
 use Rattle.forms.specs.Meaning.{Uttered, form_of, ship_of}
-use Rattle.logbooks.specs.Slots.{keeping}
-use Rattle.logbooks.specs.Logs.{Log, slot_of, older, entered, taking}
-use Rattle.messages.specs.Messages.{word, Letter}
+use Rattle.logbooks.specs.Logs.{Log, slot_of, older, taking}
+use Rattle.messages.specs.Messages.{Letter}
 use Rattle.records.specs.Records.{Written, floor_is, level_is, word_is, boat_is, used_to}
 use Rattle.stations.specs.Journals as journal
 use Rattle.stations.specs.Journals.{floor_in, level_in, used_in, form_in, slots, every, boat_reads, harbour_reads}
 use Rattle.stations.specs.Deeds.{Deed, deed}
 use Rattle.stations.specs.Boats as boats
 use Rattle.stations.specs.Boats.{Memory}
-use Rattle.stations.specs.Harbours as harbours
-use Rattle.runs.specs.declared.events.Event.{Event}
-use Rattle.runs.specs.declared.events.Event.TheVariants.{GoBack, Start, BringWord}
+use Rattle.runs.specs.declared.events.Event.TheVariants.{GoBack}
 use Rattle.runs.specs.declared.events.Fate.{Fate}
 use Rattle.runs.specs.declared.events.Fate.TheVariants.{Whole}
-use Rattle.runs.specs.Disks.{Disk, file, appended, after}
-use Rattle.runs.specs.Worlds.{World, Vessel, Port, Said, no_word, there, at, aboard, arriving, letter_of, what_boat, under, opened, opening, vessel_after, boat_does, play, plays, start, run}
+use Rattle.runs.specs.Disks.{file, appended, after}
+use Rattle.runs.specs.Worlds.{World, Said, no_word, there, at, aboard, arriving, letter_of, what_boat, under, opened, opening, vessel_after, boat_does, play, plays, start, run}
 use Rattle.runs.specs.Promises.{safe, whole, safe_port, whole_port, Listed, heard_of, Heeded, Recalls, RecallsPort, Silent, Promises, RunPromises, Lasting, RunLasts, FallLeaves, RunRecovers}
-use Rattle.runs.proofs.Parts.{put_here, Lawful, Each, each_of, part_top, part_behind, part_lost}
+use Rattle.runs.proofs.Parts.{put_here, Lawful, each_of, part_top, part_behind, part_lost}
 use Rattle.runs.proofs.Fates.{After, after_step, syncs}
-use Rattle.runs.proofs.Lists.{heard_both, heard_more, heard_least, heard_up, listed_apart}
-use Rattle.runs.proofs.Holds.{BoatLaw, ListLaw, PortLaw, Aboard, Ashore, Fit, Told, Numbered, Sound, Up}
+use Rattle.runs.proofs.Lists.{heard_more, heard_least, heard_up, listed_apart}
+use Rattle.runs.proofs.Holds.{BoatLaw, ListLaw, PortLaw, Aboard, Ashore, Told, Numbered, Sound, Up}
 use Rattle.runs.proofs.Ports.{lawful_size}
-use Rattle.runs.proofs.Vessels.{top_least, form_known, lawful_ships}
+use Rattle.runs.proofs.Vessels.{form_known, lawful_ships}
 use Rattle.runs.proofs.Plays.{each_at, plays_up, plays_then, run_sound}
 
 -- the level said is promised by all of the list

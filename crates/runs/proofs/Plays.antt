@@ -1,22 +1,19 @@
 -- Every event, with any fate, keeps the invariant.
 -- Assumes nothing.
-use Rattle.std.proofs.Common.{◌≡◌, ℕ, zero, suc, ◌<◌, ◌≤◌, Bool, true, false, cond, ◌&&◌, eqb, ltb, leb, ◌⊎◌, List, [], ◌∷◌, ◌++◌, length, get_or, Some, None, Ok, Err, Option, Result, sym, refl, ap, ◌∙◌, subst, inl, inr, le_of_suc-le-suc, not-suc-le-zero}
-use Rattle.std.proofs.lemmas.Bool.{cond_both, ltb-true, eqb-true}
-use Rattle.levels.specs.Verdicts.{Verdict, Number, Bad}
-use Rattle.ledger.specs.Ledgers.{Book}
+use Rattle.std.proofs.Common.{◌≡◌, ℕ, zero, suc, ◌<◌, true, false, ◌&&◌, eqb, ltb, leb, List, [], ◌∷◌, ◌++◌, length, get_or, Some, Ok, Err, Result, refl, le_of_suc-le-suc, not-suc-le-zero}
+use Rattle.std.proofs.lemmas.Bool.{cond_both, ltb-true}
+use Rattle.levels.specs.Verdicts.{Verdict, Bad}
 use Rattle.forms.specs.Said.{said}
 use Rattle.messages.specs.Messages.{Telling, word, promise, heard, level, has_it, Letter}
-use Rattle.stations.specs.Boats as boats
 use Rattle.stations.specs.Boats.{Memory}
-use Rattle.stations.specs.Harbours as harbours
-use Rattle.stations.specs.Deeds.{Deed, nothing}
+use Rattle.stations.specs.Deeds.{nothing}
 use Rattle.runs.specs.declared.events.Event.{Event}
 use Rattle.runs.specs.declared.events.Event.TheVariants.{Enlist, Renew, GoBack, Start, Rest, Promise, Tick, Announce, Say, BringWord, BringNotice}
 use Rattle.runs.specs.declared.events.Fate.{Fate}
-use Rattle.runs.specs.Worlds.{World, Said, start, there, at, aboard, arriving, letter_of, no_word, no_notice, opening, what_boat, what_harbour, boat_does, harbour_does, play, outcome, plays, run}
+use Rattle.runs.specs.Worlds.{World, Said, start, there, at, aboard, arriving, letter_of, no_word, no_notice, what_harbour, play, outcome, plays, run}
 use Rattle.runs.specs.Promises.{safe, safe_port}
 use Rattle.runs.proofs.Parts.{Each}
-use Rattle.runs.proofs.Holds.{Told, Sound, sound_start, Moves, boat_moves, harbour_moves, Made, move_sound, Up, move_up, up_none, up_then}
+use Rattle.runs.proofs.Holds.{Told, Sound, sound_start, boat_moves, harbour_moves, Made, move_sound, Up, move_up, up_none, up_then}
 use Rattle.runs.proofs.Ports.{aboard_made, rest_call, list_made, level_made, reopen_made}
 use Rattle.runs.proofs.Ports as ports
 use Rattle.runs.proofs.Vessels.{Fair, rest_step, promise_made, tick_made, say_made, open_made}

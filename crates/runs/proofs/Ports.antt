@@ -1,7 +1,7 @@
 -- Whatever the harbour does keeps the invariant.
 -- Assumes nothing.
-use Rattle.std.proofs.Common.{◌≡◌, ℕ, zero, suc, ◌<◌, ◌≤◌, max, Bool, true, false, cond, not, ◌&&◌, ◌||◌, eqb, ltb, leb, ◌⊎◌, List, [], ◌∷◌, ◌++◌, map, length, is_some, Some, None, Ok, Err, Option, Result, unwrap_or, sym, refl, ap, ◌∙◌, subst, inl, inr, arith}
-use Rattle.std.proofs.lemmas.Bool.{cond_both, cond-true, cond-false, eq-eqb, eqb-true, eqb-false, ltb-true, ltb-false, lt-ltb, le-leb, leb-true, leb-false, or_parts, true≢false}
+use Rattle.std.proofs.Common.{◌≡◌, ℕ, suc, ◌<◌, ◌≤◌, max, Bool, true, false, cond, ◌&&◌, ◌||◌, eqb, ltb, leb, List, [], ◌∷◌, map, length, is_some, Some, None, Ok, Err, Option, Result, unwrap_or, sym, refl, ap, ◌∙◌, subst, inl, inr, arith}
+use Rattle.std.proofs.lemmas.Bool.{cond_both, cond-true, cond-false, eq-eqb, eqb-true, ltb-false, le-leb, leb-false, true≢false}
 use Rattle.std.proofs.lemmas.Bool.Decides.{nat_tests}
 use Rattle.levels.specs.Verdicts.{Verdict, Number, Bad}
 use Rattle.ledger.specs.declared.book.Entry.{Entry}
@@ -10,19 +10,18 @@ use Rattle.ledger.specs.Ledgers as ledger
 use Rattle.ledger.specs.Ledgers.{Book, answering, unpromised}
 use Rattle.ledger.proofs.Books.{both, none_is, none_lacks}
 use Rattle.messages.specs.Messages.{Telling, word, promise, heard as heard_is, level, has_it, Letter, notice}
-use Rattle.records.specs.Records.{Written, floor_is, level_is, word_is, boat_is, used_to}
+use Rattle.records.specs.Records.{Written, level_is, boat_is}
 use Rattle.stations.specs.Journals as journal
-use Rattle.stations.specs.Deeds.{Deed, deed, nothing}
+use Rattle.stations.specs.Deeds.{deed, nothing}
 use Rattle.stations.specs.Harbours as harbours
 use Rattle.stations.specs.Harbours.{listed, confirmed, acknowledged, announced, allowing, recalled}
 use Rattle.runs.specs.declared.events.Fate.{Fate}
-use Rattle.runs.specs.Disks.{Disk, file, appended}
-use Rattle.runs.specs.Worlds.{World, Port, there, writes, harbour_does, what_harbour, aboard, reopened}
+use Rattle.runs.specs.Worlds.{World, there, writes, harbour_does, what_harbour, aboard, reopened}
 use Rattle.runs.specs.Promises.{safe, safe_port, whole_port, Listed, heard_of}
 use Rattle.runs.proofs.Parts.{Lawful, Each}
-use Rattle.runs.proofs.Fates.{Kind, syncs, quiet, kind_of}
+use Rattle.runs.proofs.Fates.{syncs, quiet}
 use Rattle.runs.proofs.Lists.{heard_both, heard_here, heard_least, listed_some, listed_apart}
-use Rattle.runs.proofs.Holds.{ListLaw, PortLaw, Ashore, Told, Sound, Calls, Moves, harbour_moves, Made}
+use Rattle.runs.proofs.Holds.{PortLaw, Ashore, Told, Sound, Calls, Moves, harbour_moves, Made}
 
 pub aboard_made : {A : Type 0} (w : World) (o : Option A) (k : A → Result World Verdict) → ((m : A) → o ≡ Some m → Made w (k m)) → Made w (aboard o k)
 aboard_made w None k h = tt

@@ -1,18 +1,17 @@
 -- What a boat's program knows after a step is what its file then says.
 -- Assumes nothing.
-use Rattle.std.proofs.Common.{◌≡◌, ℕ, zero, suc, ◌+◌, ◌<◌, ◌≤◌, min, max, Bool, true, false, cond, not, ◌&&◌, ◌||◌, eqb, ltb, leb, ◌⊎◌, List, [], ◌∷◌, ◌++◌, map, length, is_some, Some, None, Ok, Err, Option, Result, sym, refl, ap, ◌∙◌, subst, inl, inr, arith}
+use Rattle.std.proofs.Common.{◌≡◌, ℕ, ◌+◌, ◌<◌, ◌≤◌, min, max, Bool, true, false, cond, not, ◌&&◌, eqb, ltb, leb, ◌⊎◌, List, [], ◌∷◌, ◌++◌, map, length, is_some, Some, None, Ok, Err, Option, sym, refl, ap, ◌∙◌, subst, inl, inr, arith}
 use mathlib.Core.Path.{fun_ext}
-use Rattle.std.proofs.lemmas.Bool.{cond_both, cond-true, cond-false, eq-eqb, eqb-true, ltb-true, ltb-false, leb-true, leb-false, and_parts, and_from}
+use Rattle.std.proofs.lemmas.Bool.{cond_both, cond-true, cond-false, eqb-true, ltb-true, ltb-false, leb-false, and_parts}
 use Rattle.std.proofs.lemmas.Bool.Decides.{nat_tests}
-use Rattle.std.proofs.lemmas.List.{length-map}
-use Rattle.levels.specs.Verdicts.{Verdict, Number, Bad}
+use Rattle.levels.specs.Verdicts.{Number}
 use Rattle.levels.specs.Rules.{Boat, keep_form}
 use Rattle.levels.specs.Standings.{promised, raised}
 use Rattle.ledger.proofs.Books.{both}
 use Rattle.forms.specs.Meaning.{Uttered, first, second, third, form_of, ship_of, put, get}
 use Rattle.logbooks.specs.Slots.{Kept, keeping, forgotten}
 use Rattle.logbooks.specs.Logs.{Log, placed, slot_of, slot, higher, older, noted, entered, taking, fallen}
-use Rattle.records.specs.Records.{Written, floor_is, level_is, word_is, boat_is, used_to}
+use Rattle.records.specs.Records.{Written, floor_is, level_is, word_is, used_to}
 use Rattle.stations.specs.Journals as journal
 use Rattle.stations.specs.Journals.{floor, level, used, last, slots, number_in}
 use Rattle.stations.specs.Boats as boats

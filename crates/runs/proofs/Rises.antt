@@ -1,8 +1,8 @@
 -- The level can rise.
 -- Assumes nothing.
-use Rattle.std.proofs.Common.{◌≡◌, ℕ, zero, suc, ◌+◌, ◌<◌, ◌≤◌, max, Bool, true, false, cond, not, ◌&&◌, ◌||◌, eqb, ltb, leb, ◌⊎◌, List, [], ◌∷◌, ◌++◌, map, length, get_or, is_some, is_ok, Some, None, Ok, Err, Option, Result, unwrap_or, sym, refl, ap, ◌∙◌, subst, inl, inr, append_assoc, append-nil, le_of_suc-le-suc, not-suc-le-zero, arith, length-append}
+use Rattle.std.proofs.Common.{◌≡◌, ℕ, ◌<◌, ◌≤◌, max, Bool, true, false, cond, not, ◌&&◌, ◌||◌, eqb, ltb, leb, ◌⊎◌, List, [], ◌∷◌, ◌++◌, map, length, get_or, is_some, is_ok, Some, None, Ok, Err, Option, Result, unwrap_or, sym, refl, ap, ◌∙◌, subst, inl, inr, append_assoc, append-nil, arith, length-append}
 use mathlib.Core.List.{Memᴰ}
-use Rattle.std.proofs.lemmas.Bool.{cond_both, cond-true, cond-false, eq-eqb, ne_eqb, eqb-true, eqb-false, ltb-true, ltb-false, lt-ltb, le-ltb, le-leb, leb-true, leb-false, and_parts, and_from, true≢false, false≢true}
+use Rattle.std.proofs.lemmas.Bool.{cond_both, cond-true, cond-false, eq-eqb, ne_eqb, eqb-true, ltb-true, ltb-false, lt-ltb, leb-true, and_parts, and_from, false≢true}
 use Rattle.std.proofs.lemmas.Bool.Decides.{nat_tests}
 use Rattle.levels.specs.Verdicts.{Verdict, Number, Bad}
 use Rattle.ledger.specs.declared.book.Entry.{Entry}
@@ -11,7 +11,7 @@ use Rattle.ledger.specs.Ledgers as ledger
 use Rattle.ledger.specs.Ledgers.{Book, answering, unpromised}
 use Rattle.ledger.proofs.Books.{both, numbers_heard, listed_same, ascending_heard, lacks_none, known_all}
 use Rattle.ledger.proofs.Searches.{ascending_entered}
-use Rattle.messages.specs.Messages.{Telling, word, promise, heard as heard_is, level, has_it, Letter, notice}
+use Rattle.messages.specs.Messages.{heard as heard_is, has_it, Letter, notice}
 use Rattle.records.specs.Records.{Written, floor_is, level_is, word_is, boat_is, used_to}
 use Rattle.stations.specs.Journals as journal
 use Rattle.stations.specs.Journals.{level_in, floor_in}
@@ -21,15 +21,14 @@ use Rattle.stations.specs.Boats.{Memory, vow}
 use Rattle.stations.specs.Harbours as harbours
 use Rattle.stations.specs.Harbours.{confirmed, announced, allowing}
 use Rattle.runs.specs.declared.events.Event.{Event}
-use Rattle.runs.specs.declared.events.Event.TheVariants.{Enlist, Renew, GoBack, Start, Rest, Promise, Tick, Announce, Say, BringWord, BringNotice}
-use Rattle.runs.specs.declared.events.Fate.{Fate}
-use Rattle.runs.specs.declared.events.Fate.TheVariants.{Whole, Killed, Cut}
-use Rattle.runs.specs.Disks.{Disk, file, appended, flushed, after}
-use Rattle.runs.specs.Worlds.{World, Vessel, Port, put_at, writes, there, at, aboard, vessel_after, port_after, boat_does, harbour_does, what_boat, what_harbour, under, opened, opening, reopened, arriving, no_notice, play, outcome, plays, run}
+use Rattle.runs.specs.declared.events.Event.TheVariants.{Start, Promise, Tick, Announce, BringNotice}
+use Rattle.runs.specs.declared.events.Fate.TheVariants.{Whole}
+use Rattle.runs.specs.Disks.{Disk, file, appended, after}
+use Rattle.runs.specs.Worlds.{World, Vessel, writes, there, at, aboard, vessel_after, boat_does, harbour_does, what_boat, what_harbour, under, opened, opening, reopened, arriving, no_notice, play, outcome, plays, run}
 use Rattle.runs.specs.Promises.{safe, whole, safe_port, whole_port, Listed, heard_of}
 use Rattle.runs.specs.Rising.{wholly, taken, Risen, RunRises}
 use Rattle.runs.proofs.Parts.{put_each, put_here, part_behind}
-use Rattle.runs.proofs.Lists.{heard_more, heard_up, heard_here, heard_least, heard_apart, heard_both, listed_some}
+use Rattle.runs.proofs.Lists.{heard_more, heard_up, heard_here, heard_least, listed_some}
 use Rattle.runs.proofs.Holds.{Aboard, Ashore, Sound}
 use Rattle.runs.proofs.Plays.{play_sound, run_sound}
 use Rattle.runs.proofs.Keeps.{promises, opening_is}

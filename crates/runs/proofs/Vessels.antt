@@ -1,28 +1,26 @@
 -- Whatever a boat does keeps the invariant.
 -- Assumes nothing.
-use Rattle.std.proofs.Common.{◌≡◌, ℕ, zero, suc, ◌+◌, ◌<◌, ◌≤◌, min, max, Bool, true, false, cond, not, ◌&&◌, ◌||◌, eqb, ltb, leb, ◌⊎◌, List, [], ◌∷◌, ◌++◌, map, length, is_some, Some, None, Ok, Err, Option, Result, sym, refl, ap, ◌∙◌, subst, inl, inr, arith}
-use Rattle.std.proofs.lemmas.Bool.{cond_both, cond-true, cond-false, eq-eqb, eqb-false, ltb-true, ltb-false, lt-ltb, lt-leb, le-leb, leb-true, leb-false, and_parts, true≢false, false≢true}
-use Rattle.std.proofs.lemmas.Bool.Decides.{nat_tests}
+use Rattle.std.proofs.Common.{◌≡◌, ℕ, ◌+◌, ◌<◌, ◌≤◌, min, max, Bool, true, false, cond, not, ◌&&◌, ◌||◌, eqb, ltb, leb, List, [], ◌∷◌, ◌++◌, map, length, is_some, Some, Ok, Err, Result, sym, refl, ap, ◌∙◌, subst, arith}
+use Rattle.std.proofs.lemmas.Bool.{cond_both, ltb-true, ltb-false, leb-true, leb-false, and_parts, false≢true}
 use Rattle.std.proofs.lemmas.List.{length-map}
 use Rattle.levels.specs.Verdicts.{Verdict, Number, Bad}
-use Rattle.levels.specs.Rules.{Boat, reads, newest, say_form, keep_form}
+use Rattle.levels.specs.Rules.{Boat, reads, say_form, keep_form}
 use Rattle.forms.specs.Meaning.{Meaning, Uttered, first, second, third, form_of, ship_of, put, get, without}
-use Rattle.logbooks.specs.Slots.{Kept, forgotten}
+use Rattle.logbooks.specs.Slots.{forgotten}
 use Rattle.logbooks.specs.Logs.{Log, slot_of, slot, taking, fallen}
 use Rattle.messages.specs.Messages.{Telling, word, promise, heard, level, has_it, Letter, notice}
-use Rattle.records.specs.Records.{Written, floor_is, level_is, word_is, boat_is, used_to}
+use Rattle.records.specs.Records.{Written, floor_is, level_is, word_is, used_to}
 use Rattle.stations.specs.Journals as journal
 use Rattle.stations.specs.Journals.{top, floor_in, level_in, used_in, form_in, slots}
-use Rattle.stations.specs.Deeds.{Deed, deed, nothing}
+use Rattle.stations.specs.Deeds.{deed, nothing}
 use Rattle.stations.specs.Boats as boats
 use Rattle.stations.specs.Boats.{Memory, settled, recalled, vow, vowed, counted, lifted, assured, noted, kept_as}
 use Rattle.runs.specs.declared.events.Fate.{Fate}
-use Rattle.runs.specs.Disks.{Disk, file, appended, told}
-use Rattle.runs.specs.Worlds.{World, Vessel, Said, writes, boat_does, speaks, what_boat, under, opened, there, word_of, talked}
+use Rattle.runs.specs.Worlds.{World, writes, boat_does, what_boat, under, opened, there, word_of, talked}
 use Rattle.runs.specs.Promises.{safe, safe_port, whole, heard_of}
 use Rattle.runs.proofs.Parts.{Lawful, Each, part_top, part_behind}
-use Rattle.runs.proofs.Fates.{Kind, syncs, quiet}
-use Rattle.runs.proofs.Holds.{BoatLaw, Aboard, Fit, Told, Numbered, Sound, Sails, Step, Moves, boat_moves, word_moves, Made}
+use Rattle.runs.proofs.Fates.{syncs, quiet}
+use Rattle.runs.proofs.Holds.{BoatLaw, Aboard, Told, Numbered, Sound, Step, Moves, boat_moves, word_moves, Made}
 use Rattle.runs.proofs.Recalls.{Same, same_standing, same_used, same_vowed, same_counted, same_lifted, same_noted, taken_is, ship_put}
 use Rattle.runs.proofs.Sizes.{rising_slots, size_within, slot_forgotten}
 

@@ -1,6 +1,6 @@
 -- A station's file, by its records: what is synced and what is not, the newest first; and what is left of a step that is cut short.
 -- Assumes nothing.
-use Rattle.std.specs.Prelude.{ℕ, ◌-◌, Bool, true, false, cond, List, [], ◌∷◌, ◌++◌, length, take, drop, nat_lt}
+use Rattle.std.specs.Prelude.{ℕ, ◌-◌, Bool, true, false, cond, List, [], ◌++◌, length, take, drop, nat_lt}
 use Rattle.records.specs.Records.{Written}
 use Rattle.runs.specs.declared.events.Fate.{Fate}
 use Rattle.runs.specs.declared.events.Fate.TheVariants.{Whole, Killed, Cut}

@@ -1,6 +1,6 @@
 -- What is promised of the fleet of records, after any events with any fates.
 -- Assumes nothing.
-use Rattle.std.specs.Prelude.{◌≡◌, ℕ, ◌<◌, ◌≤◌, Bool, true, false, ◌⊎◌, List, [], ◌∷◌, ◌++◌, length, drop, is_some, is_ok, Some, None, Ok, Err, Option, Result, slice_index_or}
+use Rattle.std.specs.Prelude.{◌≡◌, ℕ, ◌<◌, ◌≤◌, true, false, ◌⊎◌, List, [], ◌∷◌, ◌++◌, length, drop, is_some, is_ok, Some, None, Ok, Err, Option, Result, slice_index_or}
 use mathlib.Core.List.{Memᴰ}
 use Rattle.std.specs.Option.{unwrap_or}
 use Rattle.levels.specs.Verdicts.{Verdict, Number, Bad, Memory}
@@ -18,7 +18,7 @@ use Rattle.runs.specs.declared.events.Event.TheVariants.{GoBack, Start, BringWor
 use Rattle.runs.specs.declared.events.Fate.{Fate}
 use Rattle.runs.specs.declared.events.Fate.TheVariants.{Whole}
 use Rattle.runs.specs.Disks.{Disk, file, flushed, after}
-use Rattle.runs.specs.Worlds.{World, Vessel, Port, Said, no_word, there, boat_does, under, play, plays, run}
+use Rattle.runs.specs.Worlds.{World, Vessel, Port, Said, no_word, there, play, run}
 
 -- the records of a boat that are synced, and all that stand in its file; the same of the harbour
 abbrev pub safe : World → ℕ → List Written

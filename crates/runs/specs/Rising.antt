@@ -1,6 +1,6 @@
 -- How the level rises, wherever falls have left the stations.
 -- Assumes nothing.
-use Rattle.std.specs.Prelude.{◌≡◌, ℕ, ◌<◌, ◌≤◌, Bool, true, ◌&&◌, List, [], ◌∷◌, ◌++◌, map, is_some, is_ok}
+use Rattle.std.specs.Prelude.{◌≡◌, ℕ, ◌≤◌, Bool, true, ◌&&◌, List, [], ◌∷◌, map, is_ok}
 use Rattle.ledger.specs.Entries.{numbers_of}
 use Rattle.stations.specs.Journals as journal
 use Rattle.runs.specs.declared.events.Event.{Event}

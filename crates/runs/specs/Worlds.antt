@@ -1,12 +1,12 @@
 -- The fleet of records: every station with its file, and what each event, with its fate, makes of the world.
 -- Assumes nothing.
-use Rattle.std.specs.Prelude.{ℕ, ◌+◌, Bool, true, false, cond, not, ◌&&◌, ◌||◌, List, [], ◌∷◌, ◌++◌, map, length, Some, None, Ok, Err, Option, Result, ◌==◌, nat_le, nat_lt, slice_index_or}
+use Rattle.std.specs.Prelude.{ℕ, ◌+◌, Bool, true, false, cond, ◌&&◌, List, [], ◌∷◌, ◌++◌, length, Some, None, Ok, Err, Option, Result, ◌==◌, nat_le, nat_lt, slice_index_or}
 use Rattle.levels.specs.Verdicts.{Verdict, Number, Bad}
-use Rattle.ledger.specs.Ledgers.{Book, blank as blank_book}
+use Rattle.ledger.specs.Ledgers.{Book}
 use Rattle.forms.specs.Meaning.{Meaning, Uttered, first, get, put}
 use Rattle.forms.specs.Said.{said}
 use Rattle.levels.specs.Rules.{say_form}
-use Rattle.messages.specs.Messages.{Telling, word, promise, heard, level, has_it, Letter, notice}
+use Rattle.messages.specs.Messages.{word, has_it, Letter, notice}
 use Rattle.records.specs.Records.{Written}
 use Rattle.stations.specs.Journals.{floor}
 use Rattle.stations.specs.Deeds.{Deed, deed, nothing}
@@ -16,7 +16,6 @@ use Rattle.stations.specs.Harbours as harbours
 use Rattle.runs.specs.declared.events.Event.{Event}
 use Rattle.runs.specs.declared.events.Event.TheVariants.{Enlist, Renew, GoBack, Start, Rest, Promise, Tick, Announce, Say, BringWord, BringNotice}
 use Rattle.runs.specs.declared.events.Fate.{Fate}
-use Rattle.runs.specs.declared.events.Fate.TheVariants.{Whole, Killed, Cut}
 use Rattle.runs.specs.Disks.{Disk, file, blank, after, told, lives}
 
 -- a boat: its file, the program that runs or ran last, and what that knows, while it runs

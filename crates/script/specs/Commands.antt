@@ -1,6 +1,6 @@
 -- What a script may ask for, and within which bounds.
 -- Assumes nothing.
-use Rattle.std.specs.Prelude.{ℕ, ◌-◌, ◌≤◌}
+use Rattle.std.specs.Prelude.{◌-◌, ◌≤◌}
 use Rattle.script.specs.declared.command.Command.{Command}
 use Rattle.script.specs.declared.command.Command.TheVariants.{Boats, Seed, Read, Play}
 use Rattle.script.specs.declared.steps.Message.{Message}

@@ -1,14 +1,13 @@
 -- What the outcomes are in the abstract fleet.
 -- Assumes nothing.
-use Rattle.std.proofs.Common.{◌≡◌, ℕ, ◌-◌, ◌<◌, ◌≤◌, max, Bool, true, false, cond, ◌&&◌, eqb, ltb, leb, ◌⊎◌, List, [], ◌∷◌, ◌++◌, length, get_or, set, Some, None, Option, sym, refl, ap, ◌∙◌, subst, inl, inr, arith, length-set, get_or-set_other, get_or-set_same}
+use Rattle.std.proofs.Common.{◌≡◌, ℕ, ◌-◌, ◌<◌, ◌≤◌, max, Bool, true, false, cond, ◌&&◌, eqb, ltb, leb, List, [], ◌∷◌, ◌++◌, length, Some, None, Option, sym, refl, ap, ◌∙◌, inl, inr, arith, length-set, get_or-set_other, get_or-set_same}
 use mathlib.Core.Path.{fun_ext}
 use Rattle.std.proofs.lemmas.Bool.{eq-eqb, ne_eqb, leb-true, ltb-true, ltb-false, and_parts, cond-true, cond-false, cond_both, cases_eq}
-use Rattle.levels.specs.Rules.{Boat}
-use Rattle.protocol.specs.Order.{higher, numbers}
+use Rattle.protocol.specs.Order.{higher}
 use Rattle.protocol.specs.Fleet.{Machine, put}
 use Rattle.protocol.specs.Fleet as fleet
 use Rattle.world.specs.declared.messages.Notice.{Notice}
-use Rattle.world.specs.Worlds.{World, Said, BoatState, fresh, place_of, state_at, moored, noticed, spoken}
+use Rattle.world.specs.Worlds.{World, Said, BoatState, fresh, place_of, moored, noticed, spoken}
 use Rattle.world.specs.Abstract.{seen, boat_of, machine_of, word_of, notice_of, back, abs}
 
 pub higher_max : (a b : ℕ) → max a b ≡ higher a b

@@ -1,11 +1,10 @@
 -- The steps by which boats and harbour hear of each other: each keeps the rules.
 -- Assumes nothing.
-use Rattle.std.proofs.Common.{◌≡◌, ℕ, ◌-◌, ◌<◌, ◌≤◌, max, Bool, true, false, cond, not, ◌&&◌, ◌||◌, eqb, ltb, leb, ◌⊎◌, List, [], ◌∷◌, ◌++◌, map, length, get_or, is_some, Some, None, Ok, Err, Option, Result, unwrap_or, sym, refl, ap, ◌∙◌, subst, inl, inr, append_assoc, append-nil, arith}
+use Rattle.std.proofs.Common.{◌≡◌, ℕ, ◌≤◌, max, Bool, true, false, cond, ◌&&◌, ◌||◌, eqb, ltb, leb, ◌⊎◌, List, [], ◌∷◌, ◌++◌, length, is_some, Some, None, Ok, Err, Option, Result, unwrap_or, sym, refl, ap, ◌∙◌, subst, inl, inr, append_assoc, append-nil, arith}
 use mathlib.Core.Path.{fun_ext}
 use mathlib.Core.List.Memᴰ
 use mathlib.Core.List.{Memᴰ}
-use Rattle.std.proofs.lemmas.Bool.{leb-true, ltb-true, ltb-false, eqb-true, eq-eqb, cond-true, cond-false, cond_both}
-use Rattle.levels.specs.declared.numbers.BoatId.{BoatId}
+use Rattle.std.proofs.lemmas.Bool.{leb-true, ltb-false, eqb-true, eq-eqb, cond-true, cond-false, cond_both}
 use Rattle.ledger.specs.declared.book.Entry.{Entry}
 use Rattle.levels.specs.Verdicts.{Verdict, Number, Bad}
 use Rattle.levels.specs.Rules.{Boat}
@@ -25,7 +24,7 @@ use Rattle.world.specs.Abstract.{boat_of, heard_of, machine_of, notice_of, abs}
 use Rattle.world.proofs.Abs.{higher_max, boat_moored}
 use Rattle.ledger.proofs.Searches.{ascending_entered}
 use Rattle.ledger.proofs.Books.{both, raised_by, floor_heard, ascending_heard, floor_entered, none_lacks, none_is, some_is}
-use Rattle.world.proofs.Sent.{mem_at, mem_back}
+use Rattle.world.proofs.Sent.{mem_back}
 use Rattle.world.proofs.Ruled.{Ruled, promises_of_numbers, Made, made_at, made_if, boat_is_lem, ruled_moored, ruled_noticed, same_machine}
 
 -- what a notice that was sent states is true

@@ -1,6 +1,6 @@
 -- The promises hold after every list of events.
 -- Assumes nothing.
-use Rattle.std.proofs.Common.{◌≡◌, ℕ, zero, suc, ◌-◌, ◌<◌, ◌≤◌, min, Bool, true, false, cond, not, ◌&&◌, ltb, leb, ◌⊎◌, List, [], ◌∷◌, ◌++◌, length, get_or, replicate, is_some, Some, None, Ok, Err, Option, Result, sym, refl, ap, ◌∙◌, subst, inl, inr, arith}
+use Rattle.std.proofs.Common.{◌≡◌, ℕ, zero, suc, ◌-◌, ◌<◌, ◌≤◌, Bool, true, false, cond, not, ◌&&◌, ltb, leb, List, [], ◌∷◌, ◌++◌, length, get_or, replicate, is_some, Some, None, Ok, Err, Option, Result, sym, refl, ap, ◌∙◌, subst, inl, inr, arith}
 use mathlib.Core.Path.{fun_ext}
 use mathlib.Core.List.Memᴰ
 use mathlib.Core.List.{Memᴰ}
@@ -9,14 +9,14 @@ use Rattle.std.proofs.lemmas.List.{length-replicate}
 use Rattle.std.proofs.lemmas.Bool.{le-leb, lt-ltb, ltb-true, ltb-false, and_from, cond-true, cond_both}
 use Rattle.levels.specs.declared.refusals.Refusal.{Refusal}
 use Rattle.levels.specs.Verdicts.{Verdict, Number, Bad, Tries}
-use Rattle.levels.specs.Rules.{Boat, reads, newest, keep_form}
+use Rattle.levels.specs.Rules.{reads, newest, keep_form}
 use Rattle.forms.specs.Meaning.{form_of, ship_of}
 use Rattle.forms.specs.Said.{said}
 use Rattle.logbooks.specs.Slots.{Kept}
 use Rattle.logbooks.specs.Logs.{Log, empty, slot_of, older, taking}
 use Rattle.world.proofs.Abs.{place_of_lem}
 use Rattle.world.proofs.Spoke.{form_bounds}
-use Rattle.levels.specs.Standings.{first, running, gone_back}
+use Rattle.levels.specs.Standings.{running, gone_back}
 use Rattle.protocol.specs.Order.{numbers}
 use Rattle.protocol.specs.Fleet.{Machine}
 use Rattle.protocol.specs.Fleet as fleet
@@ -26,10 +26,10 @@ use Rattle.world.specs.declared.messages.Notice.TheVariants.{Promised, Heard, Al
 use Rattle.world.specs.declared.events.Event.{Event}
 use Rattle.world.specs.declared.events.Event.TheVariants.{Enlist, Renew, GoBack, Restart, Promise, Tick, Announce, Say, BringWord, BringNotice}
 use Rattle.world.specs.Worlds.{World, BoatState, Said, begun, fresh, start, place_of, state_at, log_at, at, tells, opening, opened, play, no_word, no_notice, kept_by, taken, hearing_word}
-use Rattle.world.specs.Abstract.{seen, boat_of, log_in, log_of, heard_of, machine_of, word_of, notice_of, abs}
+use Rattle.world.specs.Abstract.{seen, boat_of, log_in, log_of, heard_of, machine_of, word_of, abs}
 use Rattle.world.specs.Promises.{Heeded, none, after, plays, run, Listed, Holds, Promises, RunPromises, Reached}
 use Rattle.world.proofs.Sent.{mem_at, mem_back}
-use Rattle.world.proofs.Ruled.{Ruled, promises_of_numbers, Made, boat_is_lem, made_renewing, made_going_back, made_restarting, made_promising, made_ticking, made_talking, made_hearing_word}
+use Rattle.world.proofs.Ruled.{Ruled, promises_of_numbers, Made, made_renewing, made_going_back, made_restarting, made_promising, made_ticking, made_talking, made_hearing_word}
 use Rattle.world.proofs.Harbour.{backed, made_hearing_notice, made_announcing, made_enlisting}
 
 -- the start

@@ -1,9 +1,8 @@
 -- Every world that events make is one of the abstract fleet; and what that fleet knows nothing of.
 -- Assumes nothing.
-use Rattle.std.proofs.Common.{◌≡◌, ℕ, ◌+◌, ◌<◌, ◌≤◌, min, Bool, true, false, cond, not, ◌&&◌, ◌||◌, eqb, ltb, leb, ◌⊎◌, List, [], ◌∷◌, ◌++◌, map, length, is_some, Some, None, Ok, Err, Option, Result, unwrap_or, sym, refl, ap, ◌∙◌, subst, inl, inr, arith, length-set}
-use mathlib.Core.Path.{fun_ext}
+use Rattle.std.proofs.Common.{◌≡◌, ℕ, ◌+◌, ◌≤◌, min, Bool, true, false, cond, not, ◌&&◌, eqb, ltb, leb, List, [], map, length, is_some, Some, None, Ok, Err, Option, Result, sym, refl, ap, ◌∙◌, subst, arith, length-set}
 use mathlib.Core.List.{Memᴰ}
-use Rattle.std.proofs.lemmas.Bool.{leb-true, ltb-true, and_parts, cond-true, cond-false, cond_both}
+use Rattle.std.proofs.lemmas.Bool.{leb-true, and_parts, cond_both}
 use Rattle.levels.specs.Verdicts.{Verdict, Number, Bad}
 use Rattle.levels.specs.Rules.{Boat, reads, say_form, keep_form}
 use Rattle.forms.specs.Meaning.{Uttered, form_of, ship_of, put as utter, get, without}
@@ -12,7 +11,7 @@ use Rattle.logbooks.specs.Logs.{Log, slot_of, older, entered, taking, fallen}
 use Rattle.levels.specs.Standings.{first, running, renewed, gone_back, raised}
 use Rattle.levels.specs.Standings as boat
 use Rattle.ledger.specs.Entries.{floor_of, ascending}
-use Rattle.protocol.specs.Order.{numbers, higher}
+use Rattle.protocol.specs.Order.{numbers}
 use Rattle.protocol.specs.Fleet.{Machine, put, Step, Later, now, next, renews, goes_back, promises, tells, learns, answers, talks}
 use Rattle.protocol.specs.Fleet as fleet
 use Rattle.protocol.specs.Promise as promise
@@ -28,7 +27,7 @@ use Rattle.world.specs.Promises.{Above}
 use Rattle.world.specs.Abstract.{seen, boat_of, log_in, log_of, heard_of, machine_of, notice_of, abs}
 use Rattle.world.specs.Abstract as abstract
 use Rattle.world.proofs.Spoke.{Spoke, Below, put_below, put_meant, spoke_moored, spoke_logged, spoke_spoken, below_fallen, below_placed}
-use Rattle.world.proofs.Abs.{higher_max, place_moored, boat_moored, abs_moored, abs_noticed, abs_spoken}
+use Rattle.world.proofs.Abs.{place_moored, boat_moored, abs_moored, abs_noticed, abs_spoken}
 
 -- crew: who is on the list, in the order of coming onto it. A floor that was answered is in the ledger, words are as they should be,
 -- and there is every boat that is on the list, which stands there once; and every boat has its log

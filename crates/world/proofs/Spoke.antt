@@ -1,19 +1,18 @@
 -- What holds of the words that were sent, and of those that the boats keep.
 -- Assumes nothing.
-use Rattle.std.proofs.Common.{◌≡◌, ℕ, zero, suc, ◌+◌, ◌-◌, ◌<◌, ◌≤◌, min, Bool, true, false, cond, eqb, ltb, leb, ◌⊎◌, List, [], ◌∷◌, ◌++◌, map, length, get_or, set, Some, None, Option, sym, refl, ap, ◌∙◌, subst, inl, inr, arith, get_or-set_other, get_or-set_same}
+use Rattle.std.proofs.Common.{◌≡◌, ℕ, ◌≤◌, Bool, true, false, cond, eqb, ltb, ◌⊎◌, List, [], ◌∷◌, ◌++◌, map, length, get_or, set, Some, None, Option, sym, refl, ap, ◌∙◌, subst, inl, inr, arith, get_or-set_other, get_or-set_same}
 use mathlib.Core.List.Memᴰ
 use mathlib.Core.List.{Memᴰ}
-use Rattle.std.proofs.lemmas.Bool.{cases_eq, cases_lt, cond_both}
+use Rattle.std.proofs.lemmas.Bool.{cases_eq, cases_lt}
 use Rattle.std.proofs.lemmas.Bool.Decides.{nat_tests}
 use Rattle.forms.specs.Meaning.{Meaning, Uttered, first, second, third, form_of, put, get, without}
 use Rattle.forms.proofs.Laws.{laws}
-use Rattle.logbooks.specs.Slots.{Kept, keeping, forgotten}
-use Rattle.logbooks.specs.Logs.{Log, empty, placed, entered, fallen}
-use Rattle.protocol.specs.Fleet as fleet
+use Rattle.logbooks.specs.Slots.{Kept, forgotten}
+use Rattle.logbooks.specs.Logs.{Log, empty, placed}
 use Rattle.protocol.proofs.Puts.{put_each}
 use Rattle.world.specs.Worlds.{World, BoatState, Said, place_of, log_at, moored, logged}
 use Rattle.world.specs.Abstract.{boat_of, log_in, log_of}
-use Rattle.world.specs.Promises.{Above, Once, none, more}
+use Rattle.world.specs.Promises.{Above, Once, more}
 use Rattle.world.proofs.Abs.{place_of_lem, place_moored, boat_moored}
 use Rattle.world.proofs.Sent.{mem_push, set_past}
 

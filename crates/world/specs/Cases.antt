@@ -2,16 +2,15 @@
 -- Assumes nothing.
 use Rattle.std.specs.Prelude.{◌≡◌, ℕ, Bool, true, false, ◌&&◌, List, [], ◌∷◌, ◌++◌, map, Some, None, Ok, Err, Option, Result, ◌==◌}
 use Rattle.levels.specs.Verdicts.{Verdict, Number, Bad, Memory}
-use Rattle.forms.specs.declared.word.Spoken.{Spoken}
 use Rattle.forms.specs.declared.word.Spoken.TheVariants.{First, Second}
-use Rattle.forms.specs.Meaning.{Meaning, Uttered, first, second, third, form_of, put, get}
+use Rattle.forms.specs.Meaning.{Meaning, form_of, put, get}
 use Rattle.forms.specs.Shows.{View, showing}
 use Rattle.logbooks.specs.Slots.{Kept, shown_of}
 use Rattle.logbooks.specs.Logs.{Log}
 use Rattle.world.specs.declared.messages.Notice.{Notice}
 use Rattle.world.specs.declared.messages.Notice.TheVariants.{Promised, Heard, Allowed, Taken}
 use Rattle.world.specs.declared.events.Event.{Event}
-use Rattle.world.specs.declared.events.Event.TheVariants.{Enlist, Renew, GoBack, Restart, Promise, Tick, Announce, Say, BringWord, BringNotice}
+use Rattle.world.specs.declared.events.Event.TheVariants.{Enlist, Renew, GoBack, Restart, Promise, Announce, Say, BringWord, BringNotice}
 use Rattle.world.specs.Worlds.{World, BoatState, Said, start, play}
 use Rattle.world.specs.Promises.{after, run}
 

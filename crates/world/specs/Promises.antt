@@ -1,6 +1,6 @@
 -- What is promised of the fleet after any events from the start.
 -- Assumes nothing.
-use Rattle.std.specs.Prelude.{◌≡◌, ℕ, ◌<◌, ◌≤◌, Bool, true, false, ◌⊎◌, List, [], ◌∷◌, ◌++◌, length, is_some, Some, None, Ok, Err, Result, slice_index_or}
+use Rattle.std.specs.Prelude.{◌≡◌, ℕ, ◌<◌, ◌≤◌, true, false, ◌⊎◌, List, [], ◌∷◌, ◌++◌, length, is_some, Some, Ok, Err, Result, slice_index_or}
 use mathlib.Core.List.{Memᴰ}
 use Rattle.levels.specs.Verdicts.{Verdict, Number, Bad, Memory}
 use Rattle.levels.specs.Rules.{reads}

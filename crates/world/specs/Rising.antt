@@ -1,6 +1,6 @@
 -- How the level rises: the events after which every boat of the list has it, and what is then true.
 -- Assumes nothing.
-use Rattle.std.specs.Prelude.{◌≡◌, ℕ, ◌+◌, ◌*◌, ◌≤◌, Bool, true, false, cond, ◌&&◌, ◌||◌, List, [], ◌∷◌, ◌++◌, map, length, is_ok, Ok, Err, Result, ◌==◌, nat_lt}
+use Rattle.std.specs.Prelude.{◌≡◌, ℕ, ◌+◌, ◌*◌, ◌≤◌, Bool, true, false, cond, ◌&&◌, ◌||◌, List, [], ◌∷◌, ◌++◌, length, is_ok, Ok, Err, Result, ◌==◌, nat_lt}
 use Rattle.levels.specs.declared.numbers.BoatId.{BoatId}
 use Rattle.ledger.specs.declared.book.Entry.{Entry}
 use Rattle.ledger.specs.Entries.{numbers_of}

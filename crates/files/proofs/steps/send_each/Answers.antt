@@ -1,8 +1,7 @@
-use Rattle.std.proofs.Common.{◌≡◌, Bool, true, false, is_ok, ap, ◌∙◌, subst, rules}
+use Rattle.std.proofs.Common.{◌≡◌, Bool, true, false, is_ok, ap, subst}
 use Rattle.std.proofs.lemmas.List.{take_all}
 use Rattle.std.proofs.lemmas.Result.{err_from_is_err_and}
-use Rattle.files.specs.Effects.{Effect, Send}
-use Rattle.files.specs.Plans.{Done, Stopped, sends}
+use Rattle.files.specs.Effects.{Send}
 use Rattle.files.proofs.Traces.{sends_more, sends_stopped}
 use Rattle.files.proofs.steps.send_each.Goals as goal
 

@@ -1,4 +1,4 @@
-use Rattle.std.proofs.Common.{◌≡◌, ◌≤◌, length, vec_items, sym, ap, ◌∙◌, arith, rules}
+use Rattle.std.proofs.Common.{◌≤◌, length, vec_items, sym, ap, ◌∙◌, arith}
 use Rattle.records.specs.Records.{written}
 use Rattle.stations.specs.Deeds.{option}
 use Rattle.runs.specs.Disks.{appended}

@@ -1,4 +1,4 @@
-use Rattle.std.proofs.Common.{◌≡◌, vec_items, sym, ap, ◌∙◌}
+use Rattle.std.proofs.Common.{vec_items, ap, ◌∙◌}
 use Rattle.stations.specs.Steps.{filed}
 use Rattle.berths.proofs.Files.{filed_rest}
 use Rattle.berths.proofs.journal.Journal.file.Goals as goal

@@ -1,4 +1,4 @@
-use Rattle.std.proofs.Common.{◌≡◌, ◌-◌, ◌≤◌, length, vec_items, sym, ap, ◌∙◌, arith}
+use Rattle.std.proofs.Common.{◌≤◌, length, vec_items, ap, ◌∙◌, arith}
 use Rattle.berths.proofs.Files.{parts, parts_cut, parts_kept}
 use Rattle.berths.proofs.journal.Journal.shorten.Goals as goal
 

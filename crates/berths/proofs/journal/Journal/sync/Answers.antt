@@ -1,5 +1,5 @@
-use Rattle.std.proofs.Common.{◌≡◌, vec_items, sym, ap, ◌∙◌}
-use Rattle.berths.proofs.Files.{parts, parts_all}
+use Rattle.std.proofs.Common.{vec_items, ◌∙◌}
+use Rattle.berths.proofs.Files.{parts_all}
 use Rattle.berths.proofs.journal.Journal.sync.Goals as goal
 
 pub returns : goal.returns

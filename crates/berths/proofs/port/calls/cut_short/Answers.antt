@@ -1,4 +1,4 @@
-use Rattle.std.proofs.Common.{◌≡◌, map, length, take, vec_items, sym, ap, ◌∙◌}
+use Rattle.std.proofs.Common.{map, take, vec_items, sym, ap, ◌∙◌}
 use Rattle.std.proofs.lemmas.List.{length-map}
 use Rattle.messages.specs.Messages.{letter}
 use Rattle.berths.specs.Disks.{sent}

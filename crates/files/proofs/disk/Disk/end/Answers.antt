@@ -1,4 +1,4 @@
-use Rattle.std.proofs.Common.{◌≡◌, ℕ, ◌-◌, ◌^◌, ◌<◌, ◌≤◌, List, length, vec_items, vec_len, sym, refl, ap, ◌∙◌, arith, rules}
+use Rattle.std.proofs.Common.{ℕ, ◌-◌, ◌≤◌, List, length, vec_items, sym, refl, ◌∙◌, rules}
 use Rattle.files.proofs.Views.{same_held, all_pending}
 use Rattle.files.proofs.disk.Disk.end.Goals as goal
 

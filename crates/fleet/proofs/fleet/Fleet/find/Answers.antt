@@ -1,4 +1,4 @@
-use Rattle.std.proofs.Common.{◌<◌, ◌⊎◌, length, vec_items, inl, inr, rules}
+use Rattle.std.proofs.Common.{◌<◌, ◌⊎◌, length, vec_items, rules}
 use Rattle.fleet.proofs.Views.{nowhere, somewhere, boat_is_lem}
 use Rattle.fleet.proofs.fleet.Fleet.find.Goals as goal
 

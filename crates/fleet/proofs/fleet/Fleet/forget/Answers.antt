@@ -1,4 +1,4 @@
-use Rattle.std.proofs.Common.{◌≡◌, List, map, set, vec_items, sym, ap, ◌∙◌, arith, rules}
+use Rattle.std.proofs.Common.{List, set, vec_items, sym, ap, ◌∙◌, rules}
 use Rattle.std.proofs.lemmas.List.{length-map, map-set}
 use Rattle.logbooks.specs.Logs.{Log, log, fallen}
 use Rattle.world.specs.Worlds.{World, log_at}

@@ -1,4 +1,4 @@
-use Rattle.std.proofs.Common.{◌≡◌, List, map, vec_items, sym, ap, arith, rules}
+use Rattle.std.proofs.Common.{List, vec_items, sym, ap, rules}
 use Rattle.std.proofs.lemmas.List.{length-map, map-set}
 use Rattle.world.specs.Worlds.{BoatState, World}
 use Rattle.fleet.specs.Fleets.{world, state}

@@ -1,4 +1,4 @@
-use Rattle.std.proofs.Common.{◌≡◌, List, [], ◌∷◌, ◌++◌, map, replicate, vec_items, ap, ◌∙◌, rules}
+use Rattle.std.proofs.Common.{◌≡◌, List, [], ◌∷◌, ◌++◌, replicate, vec_items, ap, ◌∙◌, rules}
 use Rattle.std.proofs.lemmas.List.{map_push, replicate_more}
 use Rattle.ledger.specs.Ledgers.{Book, book, blank}
 use Rattle.levels.specs.Rules.{Boat}

@@ -1,8 +1,7 @@
-use Rattle.std.proofs.Common.{◌≡◌, ℕ, ◌+◌, ◌<◌, ◌≤◌, true, false, not, ◌&&◌, eqb, leb, List, [], ◌∷◌, ◌++◌, is_some, Ok, vec_items, Result, sym, refl, ap, ◌∙◌, rules}
+use Rattle.std.proofs.Common.{◌≡◌, ◌+◌, true, false, not, ◌&&◌, eqb, leb, List, [], ◌∷◌, ◌++◌, is_some, Ok, vec_items, Result, sym, ap, ◌∙◌, rules}
 use Rattle.std.proofs.lemmas.List.{map_push}
 use Rattle.std.proofs.lemmas.Bool.{and_from, lt-leb}
 use Rattle.levels.specs.Rules.{reads, say_form}
-use Rattle.levels.specs.Standings.{view}
 use Rattle.levels.specs.Verdicts.{Verdict}
 use Rattle.forms.specs.Meaning.{Meaning, Uttered, form_of, put, get}
 use Rattle.forms.specs.Said.{said, meaning}

@@ -1,7 +1,7 @@
-use Rattle.std.proofs.Common.{◌≡◌, ℕ, ltb, List, ◌++◌, length, take, Ok, Err, Result, sym, ap, ◌∙◌, rules}
+use Rattle.std.proofs.Common.{ℕ, List, length, Ok, Result, sym, ap, ◌∙◌, rules}
 use Rattle.std.proofs.lemmas.List.{take_at}
 use Rattle.std.proofs.lemmas.Bool.{cond-false, le-ltb}
-use Rattle.levels.specs.Verdicts.{Verdict, Number}
+use Rattle.levels.specs.Verdicts.{Verdict}
 use Rattle.forms.proofs.name.Name.new.Goals as goal
 
 pub returns : goal.returns

@@ -1,10 +1,10 @@
-use Rattle.std.proofs.Common.{◌≡◌, ℕ, ◌<◌, ◌≤◌, Bool, true, false, cond, eqb, ltb, leb, List, length, is_some, is_ok, None, Ok, Err, vec_items, Result, sym, refl, ap, ◌∙◌, rules}
+use Rattle.std.proofs.Common.{List, length, is_some, is_ok, Ok, vec_items, Result, sym, refl, ap, ◌∙◌, rules}
 use Rattle.std.proofs.lemmas.Result.{err_from_is_err_and}
-use Rattle.std.proofs.lemmas.Bool.{cond-true, cond-false, ne_eqb, lt-ltb, le-ltb, le-leb, lt-leb}
+use Rattle.std.proofs.lemmas.Bool.{cond-true, cond-false, ne_eqb, lt-ltb, le-ltb, le-leb}
 use Rattle.ledger.specs.declared.book.Entry.{Entry}
-use Rattle.ledger.specs.Entries.{entered, floor_of}
-use Rattle.ledger.specs.Ledgers.{Book, entries, book, listing}
-use Rattle.levels.specs.Verdicts.{Verdict, Number}
+use Rattle.ledger.specs.Entries.{entered}
+use Rattle.ledger.specs.Ledgers.{Book, entries, book}
+use Rattle.levels.specs.Verdicts.{Verdict}
 use Rattle.ledger.proofs.Searches.{absent, found, entered_at, ascending_tried, listing_new}
 use Rattle.ledger.proofs.book.Ledger.list.Goals as goal
 

@@ -1,4 +1,4 @@
-use Rattle.std.proofs.Common.{◌≡◌, ℕ, cond, List, is_ok, Ok, vec_items, Option, Result, sym, ap, ◌∙◌, rules}
+use Rattle.std.proofs.Common.{◌≡◌, ℕ, cond, List, is_ok, Ok, vec_items, Option, Result, sym, ap, ◌∙◌}
 use mathlib.Core.Path.{fun_ext}
 use Rattle.std.specs.List.{insert}
 use Rattle.levels.specs.Verdicts.{Verdict}
@@ -8,7 +8,6 @@ use Rattle.logbooks.specs.Logs.{Log, log, kept_all, placed, noted}
 use Rattle.logbooks.proofs.Lasts.{noted_at}
 use Rattle.logbooks.proofs.Tables.{placed_in, rising_tried}
 use Rattle.logbooks.proofs.log.Logbook.insert.Goals as goal
-use Rattle.std.specs.Ordering.{nat_cmp, ordering_then}
 
 pub invariant_of-self-2-clause-sorted : goal.invariant_of-self-2-clause-sorted
 invariant_of-self-2-clause-sorted c =

@@ -1,6 +1,5 @@
-use Rattle.std.proofs.Common.{◌≡◌, ℕ, List, set, Ok, vec_items, Option, Result, sym, ap, ◌∙◌, rules}
+use Rattle.std.proofs.Common.{◌≡◌, ℕ, List, set, Ok, vec_items, Option, Result, sym, ap, ◌∙◌}
 use mathlib.Core.Path.{fun_ext}
-use Rattle.std.specs.BTreeMap.{get}
 use Rattle.std.proofs.lemmas.List.{map-set}
 use Rattle.levels.specs.Verdicts.{Verdict}
 use Rattle.logbooks.specs.Slots.{Kept, kept}
@@ -8,7 +7,6 @@ use Rattle.logbooks.specs.Logs.{Log, log, kept_all, placed, noted}
 use Rattle.logbooks.proofs.Lasts.{noted_at}
 use Rattle.logbooks.proofs.Tables.{placed_set, rising_set}
 use Rattle.logbooks.proofs.log.Logbook.replace.Goals as goal
-use Rattle.std.specs.Ordering.{nat_cmp, ordering_then}
 
 pub invariant_of-self-2-clause-sorted : goal.invariant_of-self-2-clause-sorted
 invariant_of-self-2-clause-sorted c =

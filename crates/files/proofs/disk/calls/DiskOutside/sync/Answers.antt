@@ -1,4 +1,4 @@
-use Rattle.std.proofs.Common.{◌≡◌, ℕ, ◌≤◌, List, length, vec_items, sym, refl, ap, ◌∙◌, rules}
+use Rattle.std.proofs.Common.{ℕ, ◌≤◌, List, length, vec_items, sym, refl, ◌∙◌, rules}
 use Rattle.std.proofs.lemmas.List.{take_all, drop_all, take-append-drop}
 use Rattle.files.proofs.Views.{same_held}
 use Rattle.files.proofs.disk.calls.DiskOutside.sync.Goals as goal
