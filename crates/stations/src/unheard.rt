@@ -1,5 +1,6 @@
 // Why a message is not taken. Whatever is not taken changes nothing.
 ghost use Rattle.std.specs.Prelude.{◌≡◌};
+ghost use Rattle.levels.specs.declared.refusals.Refusal.TheVariants.{NoMemory};
 ghost use Rattle.levels.specs.Verdicts.{number_of};
 ghost use Rattle.stations.specs.declared.unheard.Unheard.TheVariants.{Refused};
 ghost use Rattle.stations.specs.Unheards.{turned, passed};
@@ -41,5 +42,13 @@ impl From<Refusal> for Unheard {
 
     fn from(refusal: Refusal) -> Unheard {
         Unheard::Refused(refusal)
+    }
+}
+
+impl From<std::alloc::AllocError> for Unheard {
+    ghost from_gives = { λ _ r. r ≡ Refused NoMemory };
+
+    fn from(_e: std::alloc::AllocError) -> Unheard {
+        Unheard::Refused(Refusal::NoMemory)
     }
 }

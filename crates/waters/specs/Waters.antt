@@ -1,12 +1,13 @@
 -- The code's waters as a world of the fleet of records.
 -- Assumes nothing.
 use Rattle.std.specs.Prelude.{◌≡◌, ℕ, ◌-◌, Bool, true, false, cond, ◌&&◌, List, [], ◌∷◌, ◌++◌, map, length, Some, None, Ok, Err, vec_items, Option, Result, nat_le, slice_index_or}
-use Rattle.levels.specs.declared.refusals.Refusal.{Refusal}
-use Rattle.levels.specs.Verdicts.{Verdict, Number, Bad, Memory, verdict}
+use Rattle.levels.specs.Verdicts.{Verdict, Number, Bad, Memory}
 use Rattle.forms.specs.Said.{meaning, said}
 use Rattle.messages.specs.Messages.{Letter, letter}
 use Rattle.stations.specs.Boats as boats
 use Rattle.stations.specs.Deeds.{nothing}
+use Rattle.stations.specs.declared.unheard.Unheard.{Unheard}
+use Rattle.stations.specs.Unheards.{turned}
 use Rattle.runs.specs.declared.events.Fate.{Fate}
 use Rattle.runs.specs.Disks.{file}
 use Rattle.runs.specs.Worlds as worlds
@@ -17,8 +18,8 @@ use Rattle.berths.specs.Vessels.{vessel_of, afloat, stepped, begun}
 use Rattle.berths.specs.Ports.{port_of}
 use Rattle.waters.specs.declared.sent.Sent.{Sent}
 use Rattle.waters.specs.declared.waters.Waters.{Waters}
-use Rattle.waters.specs.declared.waters.boats.Order.{Order}
-use Rattle.waters.specs.declared.waters.boats.Order.TheVariants.{Hear, Promise, Tick, Rest, Open}
+use Rattle.waters.specs.declared.waters.orders.Order.{Order}
+use Rattle.waters.specs.declared.waters.orders.Order.TheVariants.{Hear, Promise, Tick, Rest, Open}
 
 -- boat b; where there is none, a new one
 abbrev pub vessel_at : List Vessel → ℕ → worlds.Vessel
@@ -31,9 +32,9 @@ abbrev pub world : Waters → World
 world w = record { count = length (vec_items w.vessels); boat = vessel_at (vec_items w.vessels); harbour = port_of w.port; words = map sent (vec_items w.words); notices = map letter (vec_items w.notices) }
 
 -- a call on w does what is wanted and leaves v; a refusal leaves w
-abbrev pub Plays : Result World Verdict → Result (Unit {0}) Refusal → World → World → Type 0
+abbrev pub Plays : Result World Verdict → Result (Unit {0}) Unheard → World → World → Type 0
 Plays want (Ok u) w v = want ≡ Ok v
-Plays want (Err e) w v = Refuses want (verdict e) × (v ≡ w)
+Plays want (Err e) w v = Refuses want (turned e) × (v ≡ w)
 
 -- what boat b, which is v, does when it is told to
 abbrev pub ordered : ℕ → Order → Fate → worlds.Vessel → Result (List Letter × worlds.Vessel) Verdict

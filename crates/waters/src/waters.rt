@@ -8,7 +8,7 @@ use berths::vessel::Vessel;
 use messages::Message;
 use std::alloc::Global;
 
-mod boats;
+mod orders;
 
 // Boat number i stands at place i - 1. What was sent is never taken away, the oldest first.
 #[derive(Drop)]

@@ -17,7 +17,7 @@ use Rattle.protocol.specs.Fleet as fleet
 use Rattle.protocol.specs.Promise as promise
 use Rattle.protocol.proofs.Puts.{put_each, put_here}
 use Rattle.protocol.proofs.Sound.{reach_later}
-use Rattle.protocol.proofs.Orders.{numbers_lawful}
+use Rattle.protocol.specs.Laws.{numbers_lawful}
 use Rattle.protocol.proofs.All.{always}
 use Rattle.protocol.proofs.Parts.{higher_top, after_start}
 use Rattle.world.specs.declared.messages.Notice.{Notice}

@@ -69,7 +69,7 @@ impl Logbook {
     }
 
     // The slot of a ship that has one is written anew, and a last number noted.
-    fn replace(&mut self, place: usize, slot: Slot, last: u32) -> Result<(), Refusal>
+    fn renew(&mut self, place: usize, slot: Slot, last: u32) -> Result<(), Refusal>
         requires { Placed self.old.slots.items slot.ship (Ok place) }
         ensures { Tries (Ok (spec.entered_to (log self.old) (kept slot) last)) result (log self.old) (log self.new) }
     {
@@ -79,7 +79,7 @@ impl Logbook {
     }
 
     // A ship that has none gets a slot, and a last number is noted.
-    fn insert(&mut self, place: usize, slot: Slot, last: u32) -> Result<(), Refusal>
+    fn enter(&mut self, place: usize, slot: Slot, last: u32) -> Result<(), Refusal>
         requires { (Placed self.old.slots.items slot.ship (Err place)) × (vec_len self.old.slots < 4096) }
         ensures { Tries (Ok (spec.entered_to (log self.old) (kept slot) last)) result (log self.old) (log self.new) }
     {
@@ -87,6 +87,22 @@ impl Logbook {
         self.lasts.insert((slot.from.0, slot.ship), last)?;
         self.slots.insert(place, slot)?;
         Ok(())
+    }
+
+    // The slot of a ship that has one is written anew.
+    fn replace(&mut self, place: usize, slot: Slot) -> Result<(), Refusal>
+        requires { Placed self.old.slots.items slot.ship (Ok place) }
+        ensures { Tries (Ok (spec.entered (log self.old) (kept slot))) result (log self.old) (log self.new) }
+    {
+        self.renew(place, slot, slot.number)
+    }
+
+    // A ship that has none gets a slot.
+    fn insert(&mut self, place: usize, slot: Slot) -> Result<(), Refusal>
+        requires { (Placed self.old.slots.items slot.ship (Err place)) × (vec_len self.old.slots < 4096) }
+        ensures { Tries (Ok (spec.entered (log self.old) (kept slot))) result (log self.old) (log self.new) }
+    {
+        self.enter(place, slot, slot.number)
     }
 
     // Takes a word that came, and keeps it in a form of at most `most`. An older number is passed over; there is place for so many ships.
@@ -105,12 +121,12 @@ impl Logbook {
         }
         let slot = Slot::new(from, number, came, most);
         match self.place(ship) {
-            Ok(place) => self.replace(place, slot, slot.number),
+            Ok(place) => self.replace(place, slot),
             Err(place) => {
                 if self.slots.len() >= MOST {
                     return Err(Refusal::Full);
                 }
-                self.insert(place, slot, slot.number)
+                self.insert(place, slot)
             }
         }
     }
@@ -139,12 +155,12 @@ impl Logbook {
             newer: None,
         };
         match self.place(ship) {
-            Ok(place) => self.replace(place, slot, last),
+            Ok(place) => self.renew(place, slot, last),
             Err(place) => {
                 if self.slots.len() >= MOST {
                     return Err(Refusal::Full);
                 }
-                self.insert(place, slot, last)
+                self.enter(place, slot, last)
             }
         }
     }

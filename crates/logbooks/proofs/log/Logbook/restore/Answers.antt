@@ -17,7 +17,7 @@ returns-in-Ok c =
     let S : ℕ → Kept = λ s. record { ship = s; from = c.args.from.0; number = c.args.number; word = u; newer = None } in
     let h = c.in-Ok.ensures in
     let e = restoring_known x c.args.from.0 c.args.number c.highest-last.result u top (S c.ship-ship.result) (ap S c.ship-ship.ensures) (found (ship_of u) (vec_items c.args.self.now.slots) c.in-Ok.place h.0 (h.1 ∙ c.ship-ship.ensures)) in
-    subst (λ (want : Result Log Verdict). Tries want c.replace.result x (log c.replace.new.self)) (sym e) c.replace.ensures
+    subst (λ (want : Result Log Verdict). Tries want c.renew.result x (log c.renew.new.self)) (sym e) c.renew.ensures
 
 pub returns-then-len-ge-MOST : goal.returns-then-len-ge-MOST
 returns-then-len-ge-MOST c =
@@ -37,4 +37,4 @@ returns-else-len-ge-MOST c =
     let n = length-map (vec_items c.args.self.now.slots) kept in
     let l : length (vec_items c.args.self.now.slots) < 4096 = search rules in
     let e = restoring_new x c.args.from.0 c.args.number c.highest-last.result u top (S c.ship-ship.result) (ap S c.ship-ship.ensures) (omega (arith, n, l)) in
-    subst (λ (want : Result Log Verdict). Tries want c.insert.result x (log c.insert.new.self)) (sym e) c.insert.ensures
+    subst (λ (want : Result Log Verdict). Tries want c.enter.result x (log c.enter.new.self)) (sym e) c.enter.ensures

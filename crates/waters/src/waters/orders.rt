@@ -2,7 +2,7 @@
 ghost use Rattle.std.specs.Prelude.{◌≡◌, ◌<◌, ◌++◌, map, vec_len, vec_capacity};
 ghost use Rattle.messages.specs.Messages.{letter};
 ghost use Rattle.stations.specs.Deeds.{option};
-ghost use Rattle.berths.specs.Calls.{Attempts};
+ghost use Rattle.berths.specs.Calls.{Heeds};
 ghost use Rattle.berths.specs.Vessels.{vessel_of, call_sign};
 ghost use Rattle.waters.specs.Waters.{world, Plays, ordered, ordering};
 
@@ -12,6 +12,7 @@ use levels::numbers::{BoatId, Program};
 use levels::refusals::Refusal;
 use messages::Message;
 use runs::events::Fate;
+use stations::unheard::Unheard;
 use std::alloc::Global;
 
 // What a boat may be told to do that is answered by a notice at most.
@@ -35,27 +36,27 @@ fn obey(
     heap: Global,
     order: Order,
     fate: Fate,
-) -> Result<Option<Message>, Refusal>
-    ensures done { Attempts (option letter) (ordered (call_sign vessel.old) order fate (vessel_of vessel.old)) result (vessel_of vessel.old) (vessel_of vessel.new) }
+) -> Result<Option<Message>, Unheard>
+    ensures done { Heeds (option letter) (ordered (call_sign vessel.old) order fate (vessel_of vessel.old)) result (vessel_of vessel.old) (vessel_of vessel.new) }
     ensures same { call_sign vessel.new ≡ call_sign vessel.old }
 {
     match order {
         Order::Hear(message) => vessel.hear(message, fate),
-        Order::Promise => vessel.promise(fate),
-        Order::Tick => vessel.tick(fate),
-        Order::Rest => vessel.rest(fate),
-        Order::Open(program) => vessel.open(heap, program, fate),
+        Order::Promise => Ok(vessel.promise(fate)?),
+        Order::Tick => Ok(vessel.tick(fate)?),
+        Order::Rest => Ok(vessel.rest(fate)?),
+        Order::Open(program) => Ok(vessel.open(heap, program, fate)?),
     }
 }
 
 impl Waters {
     // A boat does what it is told, and what it sends is a notice.
-    pub(super) fn order(&mut self, boat: BoatId, order: Order, fate: Fate) -> Result<(), Refusal>
+    pub(super) fn order(&mut self, boat: BoatId, order: Order, fate: Fate) -> Result<(), Unheard>
         ensures { Plays (ordering (world self.old) boat.0 order fate) result (world self.old) (world self.new) }
     {
         let number = boat.0 as usize;
         if number < 1 || number > self.vessels.len() {
-            return Err(Refusal::Invalid);
+            return Err(Unheard::Refused(Refusal::Invalid));
         }
         self.notices.reserve(1)?;
         let message = obey(&mut self.vessels[number - 1], self.heap, order, fate)?;

@@ -6,7 +6,7 @@ use Rattle.logbooks.specs.Slots.{Kept, kept}
 use Rattle.logbooks.specs.Logs.{Log, log, kept_all, placed, noted}
 use Rattle.logbooks.proofs.Lasts.{noted_at}
 use Rattle.logbooks.proofs.Tables.{placed_set, rising_set}
-use Rattle.logbooks.proofs.log.Logbook.replace.Goals as goal
+use Rattle.logbooks.proofs.log.Logbook.renew.Goals as goal
 
 pub invariant_of-self-2-clause-sorted : goal.invariant_of-self-2-clause-sorted
 invariant_of-self-2-clause-sorted c =

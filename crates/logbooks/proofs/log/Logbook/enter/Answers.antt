@@ -7,7 +7,7 @@ use Rattle.logbooks.specs.Slots.{Kept, kept}
 use Rattle.logbooks.specs.Logs.{Log, log, kept_all, placed, noted}
 use Rattle.logbooks.proofs.Lasts.{noted_at}
 use Rattle.logbooks.proofs.Tables.{placed_in, rising_tried}
-use Rattle.logbooks.proofs.log.Logbook.insert.Goals as goal
+use Rattle.logbooks.proofs.log.Logbook.enter.Goals as goal
 
 pub invariant_of-self-2-clause-sorted : goal.invariant_of-self-2-clause-sorted
 invariant_of-self-2-clause-sorted c =
