@@ -1,19 +1,23 @@
 -- One boat of the list is written anew.
 -- Assumes nothing.
-use Rattle.std.proofs.Common.{◌≡◌, ℕ, zero, suc, ◌+◌, ◌-◌, ◌<◌, ◌≤◌, Bool, true, false, cond, ◌&&◌, ◌++◌, eqb, leb, ◌⊎◌, List, [], ◌∷◌, map, length, get_or, set, Ok, Err, Option, Result, sym, refl, ap, ◌∙◌, subst, arith, rules, suc-le-suc, le_of_suc-le-suc, get_or-set_same, get_or-set_other}
+use Rattle.std.proofs.Common.{◌≡◌, ℕ, zero, suc, ◌+◌, ◌-◌, ◌<◌, ◌≤◌, true, false, ◌&&◌, ◌++◌, eqb, leb, List, [], ◌∷◌, map, length, get_or, set, vec_items, Ok, Err, Result, sym, refl, ap, ◌∙◌, arith, le_of_suc-le-suc, get_or-set_same, get_or-set_other}
 use mathlib.Core.Path.{fun_ext}
-use Rattle.std.proofs.lemmas.Bool.{eq-eqb, ne_eqb, eqb-true, le-leb, lt-leb, and_from, and_parts, cond-true, cond-false}
-use Rattle.std.proofs.lemmas.List.{map-set}
+use Rattle.std.proofs.lemmas.Bool.{eqb-true, eqb-false, ne_eqb, le-leb, and_from, and_parts, cond-true, cond-false, cond_both}
+use Rattle.std.proofs.lemmas.List.{map-set, length-map, length-set, get_or-map}
 use Rattle.messages.specs.declared.Message.{Message}
 use Rattle.messages.specs.Messages.{Letter, letter}
 use Rattle.runs.specs.declared.events.Fate.{Fate}
 use Rattle.runs.specs.Worlds as worlds
-use Rattle.runs.specs.Worlds.{fresh, put_at}
-use Rattle.levels.specs.Verdicts.{Verdict}
+use Rattle.runs.specs.Worlds.{World, fresh, put_at, there}
+use Rattle.levels.specs.Verdicts.{Verdict, Number, Bad, Memory}
 use Rattle.berths.specs.declared.vessel.Vessel.{Vessel}
 use Rattle.berths.specs.Vessels.{vessel_of, call_sign}
 use Rattle.waters.specs.Numbers.{numbered}
-use Rattle.waters.specs.Waters.{vessel_at}
+use Rattle.berths.specs.Calls.{Refuses}
+use Rattle.berths.specs.Ports.{port_of}
+use Rattle.waters.specs.declared.waters.Waters.{Waters}
+use Rattle.waters.specs.declared.waters.orders.Order.{Order}
+use Rattle.waters.specs.Waters.{vessel_at, sent, world, ordered, ordering, sailed}
 
 -- its number is kept
 pub numbered_set : (n i : ℕ) (vs : List Vessel) (v u : Vessel) → i < length vs → v ≡ get_or vs i v → call_sign u ≡ call_sign v → numbered n vs ≡ true → numbered n (set vs i u) ≡ true
@@ -32,3 +36,83 @@ sign_at n zero (x ∷ xs) v l e h =
 sign_at n (suc i) (x ∷ xs) v l e h =
     let p : (eqb (call_sign x) n ≡ true) × (numbered (suc n) xs ≡ true) = and_parts (eqb (call_sign x) n) (numbered (suc n) xs) h in
     sign_at (suc n) i xs v (le_of_suc-le-suc l) e p.1 ∙ omega arith
+
+-- boat k + 1 stands at place k
+at_place : (vs : List Vessel) (k : ℕ) → vessel_at vs (suc k) ≡ get_or (map vessel_of vs) k fresh
+at_place vs k =
+    let p : leb 1 (suc k) ≡ true = le-leb 1 (suc k) (omega arith) in
+    let m : suc k - 1 ≡ k = omega arith in
+    cond-true (leb 1 (suc k)) (get_or (map vessel_of vs) (suc k - 1) fresh) fresh p ∙ ap (λ (j : ℕ). get_or (map vessel_of vs) j fresh) m
+
+written_here : (vs : List Vessel) (i : ℕ) (u : Vessel) → i < length vs → get_or (map vessel_of (set vs i u)) i fresh ≡ vessel_of u
+written_here vs i u l =
+    let n : i < length (map vessel_of vs) = simp length-map l in
+    ap (λ ys. get_or ys i fresh) (map-set vessel_of vs i u) ∙ get_or-set_same (map vessel_of vs) i (vessel_of u) fresh n
+
+written_apart : (vs : List Vessel) (i k : ℕ) (u : Vessel) → (k ≡ i → ⊥) → get_or (map vessel_of (set vs i u)) k fresh ≡ get_or (map vessel_of vs) k fresh
+written_apart vs i k u h = ap (λ ys. get_or ys k fresh) (map-set vessel_of vs i u) ∙ get_or-set_other (map vessel_of vs) i k (vessel_of u) fresh h
+
+-- the boats by their numbers, with one of them written anew
+pub boats_put : (vs : List Vessel) (i : ℕ) (u : Vessel) → i < length vs → vessel_at (set vs i u) ≡ put_at (suc i) (vessel_of u) (vessel_at vs)
+boats_put vs i u l = fun_ext go
+  where
+    go : (b : ℕ) → vessel_at (set vs i u) b ≡ put_at (suc i) (vessel_of u) (vessel_at vs) b
+    go zero =
+        let n : 0 ≡ suc i → ⊥ = λ e. omega arith in
+        sym (cond-false (eqb 0 (suc i)) (vessel_of u) (vessel_at vs 0) (ne_eqb 0 (suc i) n))
+    go (suc k) = at_place (set vs i u) k ∙ cond_both (eqb (suc k) (suc i)) (vessel_of u) (vessel_at vs (suc k)) (λ x. get_or (map vessel_of (set vs i u)) k fresh ≡ x) same apart
+      where
+        same : eqb (suc k) (suc i) ≡ true → get_or (map vessel_of (set vs i u)) k fresh ≡ vessel_of u
+        same e =
+            let s : suc k ≡ suc i = eqb-true (suc k) (suc i) e in
+            let m : k ≡ i = omega arith in
+            ap (λ (j : ℕ). get_or (map vessel_of (set vs i u)) j fresh) m ∙ written_here vs i u l
+
+        apart : eqb (suc k) (suc i) ≡ false → get_or (map vessel_of (set vs i u)) k fresh ≡ vessel_at vs (suc k)
+        apart e = written_apart vs i k u (λ m. eqb-false (suc k) (suc i) e (ap suc m)) ∙ sym (at_place vs k)
+
+pub boat_at : (vs : List Vessel) (i : ℕ) (v : Vessel) → i < length vs → v ≡ get_or vs i v → vessel_at vs (suc i) ≡ vessel_of v
+boat_at vs i v l e = at_place vs i ∙ get_or-map vessel_of vs i v fresh l ∙ ap vessel_of (sym e)
+
+-- a boat that means the same as before
+pub boats_same : (vs : List Vessel) (i : ℕ) (v u : Vessel) → i < length vs → v ≡ get_or vs i v → vessel_of u ≡ vessel_of v → vessel_at (set vs i u) ≡ vessel_at vs
+boats_same vs i v u l e s = boats_put vs i u l ∙ fun_ext (λ b. cond_both (eqb b (suc i)) (vessel_of u) (vessel_at vs b) (λ x. x ≡ vessel_at vs b) (λ h. s ∙ sym (boat_at vs i v l e) ∙ ap (vessel_at vs) (sym (eqb-true b (suc i) h))) (λ h. refl))
+
+-- what a boat does when it is told to, in the world
+pub ordered_is : (w : Waters) (b : ℕ) (o : Order) (f : Fate) (v : Vessel) → 1 ≤ b → b - 1 < length (vec_items w.vessels) → v ≡ get_or (vec_items w.vessels) (b - 1) v → ordering (world w) b o f ≡ sailed (world w) b (ordered (call_sign v) o f (vessel_of v))
+ordered_is w b o f v low l e =
+    let vs : List Vessel = vec_items w.vessels in
+    let m : suc (b - 1) ≡ b = omega arith in
+    let n : call_sign v ≡ b = sign_at 1 (b - 1) vs v l e w.numbers ∙ omega arith in
+    let t : there (world w) b ≡ true = and_from (leb 1 b) (leb b (length vs)) (le-leb 1 b low) (le-leb b (length vs) (omega arith)) in
+    let x : vessel_at vs b ≡ vessel_of v = ap (vessel_at vs) (sym m) ∙ boat_at vs (b - 1) v l e in
+    cond-true (there (world w) b) (sailed (world w) b (ordered b o f (vessel_at vs b))) (Err Bad) t
+    ∙ ap (λ (y : worlds.Vessel). sailed (world w) b (ordered b o f y)) x
+    ∙ ap (λ (c : ℕ). sailed (world w) b (ordered c o f (vessel_of v))) (sym n)
+
+-- the world after that, where it is done
+pub sailed_is : (w : Waters) (b : ℕ) (o : Order) (f : Fate) (v u : Vessel) (ls : List Letter) (ms : List Message) → 1 ≤ b → b - 1 < length (vec_items w.vessels) → v ≡ get_or (vec_items w.vessels) (b - 1) v → map letter ms ≡ map letter (vec_items w.notices) ++ ls → ordered (call_sign v) o f (vessel_of v) ≡ Ok (ls, vessel_of u) → ordering (world w) b o f ≡ Ok (record { count = length (set (vec_items w.vessels) (b - 1) u); boat = vessel_at (set (vec_items w.vessels) (b - 1) u); harbour = port_of w.port; words = map sent (vec_items w.words); notices = map letter ms })
+sailed_is w b o f v u ls ms low l e s d =
+    let vs : List Vessel = vec_items w.vessels in
+    let m : suc (b - 1) ≡ b = omega arith in
+    let p : put_at b (vessel_of u) (vessel_at vs) ≡ vessel_at (set vs (b - 1) u) = ap (λ (j : ℕ). put_at j (vessel_of u) (vessel_at vs)) (sym m) ∙ sym (boats_put vs (b - 1) u l) in
+    let F : (n : ℕ) → (ℕ → worlds.Vessel) → List Letter → Result World Verdict = λ n g ns. Ok (record { count = n; boat = g; harbour = port_of w.port; words = map sent (vec_items w.words); notices = ns }) in
+    ordered_is w b o f v low l e
+    ∙ ap (sailed (world w) b) d
+    ∙ ap (λ (n : ℕ). F n (put_at b (vessel_of u) (vessel_at vs)) (map letter (vec_items w.notices) ++ ls)) (sym (length-set vs (b - 1) u))
+    ∙ ap (λ g. F (length (set vs (b - 1) u)) g (map letter (vec_items w.notices) ++ ls)) p
+    ∙ ap (F (length (set vs (b - 1) u)) (vessel_at (set vs (b - 1) u))) (sym s)
+
+-- where it is not done, all is as it was
+pub turned_is : (w : Waters) (b : ℕ) (o : Order) (f : Fate) (v : Vessel) (e : Verdict) → 1 ≤ b → b - 1 < length (vec_items w.vessels) → v ≡ get_or (vec_items w.vessels) (b - 1) v → Refuses (ordered (call_sign v) o f (vessel_of v)) e → Refuses (ordering (world w) b o f) e
+turned_is w b o f v (Number n) low l h d = ordered_is w b o f v low l h ∙ ap (sailed (world w) b) d
+turned_is w b o f v Bad low l h d = ordered_is w b o f v low l h ∙ ap (sailed (world w) b) d
+turned_is w b o f v Memory low l h d = tt
+
+pub kept_is : (w : Waters) (i : ℕ) (v u : Vessel) (ms : List Message) → i < length (vec_items w.vessels) → v ≡ get_or (vec_items w.vessels) i v → vessel_of u ≡ vessel_of v → ms ≡ vec_items w.notices → record { count = length (set (vec_items w.vessels) i u); boat = vessel_at (set (vec_items w.vessels) i u); harbour = port_of w.port; words = map sent (vec_items w.words); notices = map letter ms } ≡ world w
+kept_is w i v u ms l e s m =
+    let vs : List Vessel = vec_items w.vessels in
+    let F : ℕ → (ℕ → worlds.Vessel) → List Letter → World = λ n g ns. record { count = n; boat = g; harbour = port_of w.port; words = map sent (vec_items w.words); notices = ns } in
+    ap (λ (n : ℕ). F n (vessel_at (set vs i u)) (map letter ms)) (length-set vs i u)
+    ∙ ap (λ g. F (length vs) g (map letter ms)) (boats_same vs i v u l e s)
+    ∙ ap (λ ns. F (length vs) (vessel_at vs) ns) (ap (map letter) m)

@@ -1,7 +1,7 @@
 -- The code's waters as a world of the fleet of records.
 -- Assumes nothing.
-use Rattle.std.specs.Prelude.{◌≡◌, ℕ, ◌-◌, Bool, true, false, cond, ◌&&◌, List, [], ◌∷◌, ◌++◌, map, length, Some, None, Ok, Err, vec_items, Option, Result, nat_le, slice_index_or}
-use Rattle.levels.specs.Verdicts.{Verdict, Number, Bad, Memory}
+use Rattle.std.specs.Prelude.{◌≡◌, ℕ, ◌-◌, cond, List, ◌++◌, map, length, Ok, Err, vec_items, Result, nat_le, slice_index_or}
+use Rattle.levels.specs.Verdicts.{Verdict, Bad}
 use Rattle.forms.specs.Said.{meaning, said}
 use Rattle.messages.specs.Messages.{Letter, letter}
 use Rattle.stations.specs.Boats as boats
