@@ -26,9 +26,9 @@ struct Berth {
 // Boat number i stands at place i - 1, and there is what it keeps of the words that it took. What was sent is never taken away, the oldest first.
 #[derive(Drop)]
 pub struct Fleet {
-    pub harbour: Ledger,
-    pub boats: Vec<Vessel>,
-    pub logs: Vec<Logbook>,
-    pub words: Vec<Sent>,
-    pub notices: Vec<Notice>,
+    harbour: Ledger,
+    boats: Vec<Vessel>,
+    logs: Vec<Logbook>,
+    words: Vec<Sent>,
+    notices: Vec<Notice>,
 }

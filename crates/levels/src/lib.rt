@@ -1,4 +1,4 @@
-// Programs, promises and levels, by value and in memory.
+// Programs, promises and levels, by value.
 #![tactic(auto)]
 
 pub mod moves;

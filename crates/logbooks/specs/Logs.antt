@@ -41,10 +41,11 @@ older (Some m) n = nat_le n m
 abbrev pub noted : (ℕ → ℕ → Option ℕ) → ℕ → ℕ → ℕ → ℕ → ℕ → Option ℕ
 noted f b s n c t = cond (c == b && t == s) (Some n) (f c t)
 
--- a slot is entered, and a last number noted
+-- a slot is entered, and some last number noted
 abbrev pub entered_to : Log → Kept → ℕ → Log
 entered_to x s n = record { slots = placed s x.slots; lasts = noted x.lasts s.from s.ship n }
 
+-- a slot is entered, and its number noted
 abbrev pub entered : Log → Kept → Log
 entered x s = record { slots = placed s x.slots; lasts = noted x.lasts s.from s.ship s.number }
 

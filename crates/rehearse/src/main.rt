@@ -9,6 +9,7 @@ mod table;
 use script::lines::next_line;
 use stage::Stage;
 use std::io::BufReader;
+use std::process::ExitCode;
 use std::{env, io};
 
 // What the program is asked for by its arguments.
@@ -69,13 +70,19 @@ fn run(rt: &HostRuntime) -> io::Result<()> {
     stage.end()
 }
 
-fn main(rt: HostRuntime) -> io::Result<()> {
+fn main(rt: HostRuntime) -> io::Result<ExitCode> {
     match arguments(&rt) {
-        Asked::Run => run(&rt),
-        Asked::Help => print!(rt; "{HELP}"),
+        Asked::Run => {
+            run(&rt)?;
+            Ok(ExitCode::SUCCESS)
+        }
+        Asked::Help => {
+            print!(rt; "{HELP}")?;
+            Ok(ExitCode::SUCCESS)
+        }
         Asked::Unknown => {
             println!(rt; "bad arguments: there is only --help")?;
-            Err(io::Error::from(io::ErrorKind::InvalidInput))
+            Ok(ExitCode::FAILURE)
         }
     }
 }

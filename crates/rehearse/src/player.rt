@@ -2,7 +2,6 @@
 ghost use Rattle.std.specs.Prelude.{◌≤◌};
 
 use crate::answers::{Answer, Output, Reason};
-use fleet::fleet::Fleet;
 use levels::numbers::{BoatId, Level};
 use levels::refusals::Refusal;
 use levels::standing::Standing;
@@ -59,15 +58,15 @@ impl Player {
         })
     }
 
-    // The fleet as it stands.
-    pub(crate) fn fleet(&self) -> &Fleet {
-        self.rehearsal.fleet()
+    // The rehearsal as it stands.
+    pub(crate) fn rehearsal(&self) -> &Rehearsal {
+        &self.rehearsal
     }
 
     // The standing of a boat, if there is one of that number.
     fn standing(&self, boat: BoatId) -> Option<Standing> {
         let place = (boat.0 as usize).checked_sub(1)?;
-        let vessel = self.fleet().boats.get(place)?;
+        let vessel = self.rehearsal.boats().get(place)?;
         Some(vessel.standing)
     }
 
@@ -99,7 +98,7 @@ impl Player {
 
     // The first boat whose program is too old for a level.
     fn first_outdated(&self, level: Level) -> Option<BoatId> {
-        for listed in self.fleet().harbour.boats() {
+        for listed in self.rehearsal.harbour().boats() {
             if let Some(standing) = self.standing(listed.boat) {
                 if standing.program.0 < level.0 {
                     return Some(listed.boat);
@@ -164,9 +163,9 @@ impl Player {
         ensures { 1 ≤ result.boats }
     {
         Scene {
-            boats: self.fleet().boats.len().clamp(1, 8) as u16,
-            words: self.fleet().words.len() as u64,
-            notices: self.fleet().notices.len() as u64,
+            boats: self.rehearsal.boats().len().clamp(1, 8) as u16,
+            words: self.rehearsal.words().len() as u64,
+            notices: self.rehearsal.notices().len() as u64,
         }
     }
 
@@ -174,9 +173,7 @@ impl Player {
     pub(crate) fn draw(&mut self, seed: u64, count: u64, out: &mut Output) -> io::Result<()> {
         let mut draws = Draws::new(seed);
         for _ in 0..count {
-            let Some(step) = draws.step(self.scene()) else {
-                break;
-            };
+            let step = draws.step(self.scene());
             let echo = format!(in self.heap; "{step}")?;
             self.step(step, echo.as_str(), out)?;
         }

@@ -73,7 +73,7 @@ impl Stage {
             return self.bad(echo, Fault::NoBoatsYet);
         };
         writeln!(self.out, "{echo}: ok")?;
-        table::print(self.heap, player.fleet(), &mut self.out)
+        table::print(self.heap, player.rehearsal(), &mut self.out)
     }
 
     // Plays a command.
@@ -93,7 +93,7 @@ impl Stage {
             return Ok(());
         }
         let echo = shortened(self.heap, text.as_str())?;
-        if line.long {
+        if line.is_long() {
             self.bad(echo.as_str(), Fault::LongLine)?;
         } else if !text.is_empty() {
             match parse(text.as_str()) {
@@ -107,7 +107,7 @@ impl Stage {
     // Prints the table at the end, if there are boats.
     pub(crate) fn end(&mut self) -> io::Result<()> {
         if let Some(player) = &self.player {
-            table::print(self.heap, player.fleet(), &mut self.out)?;
+            table::print(self.heap, player.rehearsal(), &mut self.out)?;
         }
         self.out.flush()
     }

@@ -1,10 +1,10 @@
 // The table of the boats.
 use crate::answers::Output;
-use fleet::fleet::Fleet;
 use levels::numbers::{BoatId, FormNumber, Program};
 use levels::rules::{newest, reads};
 use levels::standing::Standing;
 use logbooks::log::Logbook;
+use rehearsal::rehearsal::Rehearsal;
 use std::alloc::{AllocError, Global};
 use std::io;
 use std::io::Write;
@@ -41,11 +41,11 @@ fn in_a_file(logs: &[Logbook], form: FormNumber) -> bool {
 }
 
 // The forms that are on the air or kept by some boat, of those that any program writes.
-fn forms_in_use(heap: Global, fleet: &Fleet) -> Result<Vec<FormNumber>, AllocError> {
+fn forms_in_use(heap: Global, rehearsal: &Rehearsal) -> Result<Vec<FormNumber>, AllocError> {
     let mut forms = Vec::new(heap);
     for number in 1..=newest(Program(u32::MAX)).0 {
         let form = FormNumber(number);
-        if on_air(fleet.words.as_slice(), form) || in_a_file(fleet.logs.as_slice(), form) {
+        if on_air(rehearsal.words(), form) || in_a_file(rehearsal.logs(), form) {
             forms.push(form)?;
         }
     }
@@ -53,20 +53,20 @@ fn forms_in_use(heap: Global, fleet: &Fleet) -> Result<Vec<FormNumber>, AllocErr
 }
 
 // Does the boat that a word is for read it now?
-fn can_be_read(fleet: &Fleet, word: Sent) -> bool {
+fn can_be_read(rehearsal: &Rehearsal, word: Sent) -> bool {
     let Some(place) = (word.to.0 as usize).checked_sub(1) else {
         return false;
     };
-    match fleet.boats.get(place) {
+    match rehearsal.boats().get(place) {
         Some(vessel) => reads(vessel.standing.program, word.spoken.form()),
         None => false,
     }
 }
 
 // Can every word that was ever sent be read now?
-fn all_can_be_read(fleet: &Fleet) -> bool {
-    for word in fleet.words.as_slice() {
-        if !can_be_read(fleet, *word) {
+fn all_can_be_read(rehearsal: &Rehearsal) -> bool {
+    for word in rehearsal.words() {
+        if !can_be_read(rehearsal, *word) {
             return false;
         }
     }
@@ -74,8 +74,8 @@ fn all_can_be_read(fleet: &Fleet) -> bool {
 }
 
 // Has the harbour heard the floor of a boat?
-fn is_told(fleet: &Fleet, boat: u16, standing: Standing) -> bool {
-    match fleet.harbour.floor_of(BoatId(boat)) {
+fn is_told(rehearsal: &Rehearsal, boat: u16, standing: Standing) -> bool {
+    match rehearsal.harbour().floor_of(BoatId(boat)) {
         Some(heard) => standing.floor <= heard,
         None => false,
     }
@@ -98,7 +98,7 @@ fn heading(forms: &[FormNumber], out: &mut Output) -> io::Result<()> {
 
 // The line of a boat.
 fn row(
-    fleet: &Fleet,
+    rehearsal: &Rehearsal,
     boat: u16,
     standing: Standing,
     forms: &[FormNumber],
@@ -107,7 +107,7 @@ fn row(
     let program = standing.program.0;
     let floor = standing.floor.0;
     let level = standing.level.0;
-    let told = yes_no(is_told(fleet, boat, standing));
+    let told = yes_no(is_told(rehearsal, boat, standing));
     write!(out, "{boat:>4}{program:>9}{floor:>7}{level:>7}{told:>6}")?;
     for form in forms {
         let read = yes_no(reads(standing.program, *form));
@@ -117,11 +117,11 @@ fn row(
 }
 
 // The last line: what was said, how much was sent, and whether all of it can be read.
-fn footing(fleet: &Fleet, out: &mut Output) -> io::Result<()> {
-    let said = fleet.harbour.said().0;
-    let words = fleet.words.len();
-    let notices = fleet.notices.len();
-    let verdict = if all_can_be_read(fleet) {
+fn footing(rehearsal: &Rehearsal, out: &mut Output) -> io::Result<()> {
+    let said = rehearsal.harbour().said().0;
+    let words = rehearsal.words().len();
+    let notices = rehearsal.notices().len();
+    let verdict = if all_can_be_read(rehearsal) {
         "every word can be read"
     } else {
         "NOT EVERY WORD CAN BE READ"
@@ -133,13 +133,13 @@ fn footing(fleet: &Fleet, out: &mut Output) -> io::Result<()> {
 }
 
 // Prints the table.
-pub(crate) fn print(heap: Global, fleet: &Fleet, out: &mut Output) -> io::Result<()> {
-    let forms = forms_in_use(heap, fleet)?;
+pub(crate) fn print(heap: Global, rehearsal: &Rehearsal, out: &mut Output) -> io::Result<()> {
+    let forms = forms_in_use(heap, rehearsal)?;
     heading(forms.as_slice(), out)?;
     let mut boat: u16 = 0;
-    for vessel in fleet.boats.as_slice() {
+    for vessel in rehearsal.boats() {
         boat = boat.saturating_add(1);
-        row(fleet, boat, vessel.standing, forms.as_slice(), out)?;
+        row(rehearsal, boat, vessel.standing, forms.as_slice(), out)?;
     }
-    footing(fleet, out)
+    footing(rehearsal, out)
 }

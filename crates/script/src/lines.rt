@@ -11,11 +11,11 @@ const MOST_KEPT: usize = 4096;
 // How many bytes of a line are printed.
 const MOST_SHOWN: usize = 60;
 
-// A line without its end, or the first part of one that was too long: `long` says so.
+// A line without its end, or the first part of one that was too long.
 #[derive(Drop)]
 pub struct Line {
     bytes: Vec<u8>,
-    pub long: bool,
+    long: bool,
     ghost kept: { vec_len bytes ≤ 4096 },
 }
 

@@ -119,7 +119,7 @@ impl Draws {
     }
 
     // One step, where there is a boat.
-    fn with_boats(&mut self, scene: Scene) -> Step
+    pub fn step(&mut self, scene: Scene) -> Step
         requires { 1 ≤ scene.boats }
         ensures { Drawn scene result }
     {
@@ -166,12 +166,12 @@ impl Draws {
     }
 
     // One step, unless there is no boat.
-    pub fn step(&mut self, scene: Scene) -> Option<Step>
+    pub fn step_if_any(&mut self, scene: Scene) -> Option<Step>
         ensures { MatchOption result (scene.boats ≡ 0) (Drawn scene) }
     {
         if scene.boats == 0 {
             return None;
         }
-        Some(self.with_boats(scene))
+        Some(self.step(scene))
     }
 }

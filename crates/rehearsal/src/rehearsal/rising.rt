@@ -48,7 +48,7 @@ impl Rehearsal {
     fn standing_of(&self, boat: BoatId) -> Standing
         ensures { view result ≡ (boat_of (world self.now.fleet) boat.0).standing }
     {
-        let boats = self.fleet.boats.as_slice();
+        let boats = self.fleet.boats();
         let number = boat.0 as usize;
         if number < 1 || number > boats.len() {
             return Standing::first();
@@ -60,7 +60,7 @@ impl Rehearsal {
     fn outdated(&self, level: Level) -> bool
         ensures { result ≡ spec.outdated (world self.now.fleet) level.0 (world self.now.fleet).harbour.list }
     {
-        let boats = self.fleet.harbour.boats();
+        let boats = self.fleet.harbour().boats();
         for listed in boats {
             if self.standing_of(listed.boat).program.0 < level.0 {
                 return true;
@@ -101,9 +101,8 @@ impl Rehearsal {
     fn vouch_each(&self, events: &mut Vec<Event>, level: Level) -> Result<(), Refusal>
         ensures { OrMemory result (events.new.items ≡ events.old.items ++ spec.vouching (world self.now.fleet) level.0 (world self.now.fleet).harbour.list (length (world self.now.fleet).notices)) }
     {
-        let boats = self.fleet.harbour.boats();
-        let notices = self.fleet.notices.as_slice();
-        let mut next = notices.len();
+        let boats = self.fleet.harbour().boats();
+        let mut next = self.fleet.notices().len();
         for listed in boats {
             if listed.floor.0 < level.0 {
                 self.vouch_one(events, listed.boat, level, next)?;
@@ -117,9 +116,8 @@ impl Rehearsal {
     fn plan(&self, heap: Global, level: Level) -> Result<Vec<Event>, Refusal>
         ensures { Gives vec_items (spec.raising level.0 (world self.now.fleet)) result }
     {
-        let boats = self.fleet.harbour.boats();
-        let notices = self.fleet.notices.as_slice();
-        let first = notices.len() + 2 * behind(boats, level);
+        let boats = self.fleet.harbour().boats();
+        let first = self.fleet.notices().len() + 2 * behind(boats, level);
         let mut events = Vec::new(heap);
         self.vouch_each(&mut events, level)?;
         events.push(Event::Announce { level })?;
@@ -134,7 +132,7 @@ impl Rehearsal {
         if level.0 == 0 {
             return Err(Refusal::Invalid);
         }
-        if level.0 > 1 && self.fleet.harbour.boats().is_empty() {
+        if level.0 > 1 && self.fleet.harbour().boats().is_empty() {
             return Err(Refusal::NotPromised);
         }
         if self.outdated(level) {

@@ -24,8 +24,7 @@ impl Player {
         };
         let Some(log) = self
             .rehearsal
-            .fleet()
-            .logs
+            .logs()
             .get((boat.0 as usize).saturating_sub(1))
         else {
             return Ok(());

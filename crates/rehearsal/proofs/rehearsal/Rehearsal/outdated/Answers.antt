@@ -4,6 +4,7 @@ use Rattle.std.proofs.lemmas.Bool.{lt-ltb, le-ltb, or_left}
 use Rattle.ledger.specs.declared.book.Entry.{Entry}
 use Rattle.levels.specs.Rules.{Boat}
 use Rattle.ledger.specs.Entries.{entry}
+use Rattle.ledger.specs.Ledgers.{Book}
 use Rattle.world.specs.Worlds.{World}
 use Rattle.fleet.specs.Fleets.{world}
 use Rattle.world.specs.Abstract.{boat_of}
@@ -16,7 +17,7 @@ returns-then-standing_of-level c =
     let k : ℕ = c.args.level.0 in
     let list : List Entry = c.boats-boats.result.now in
     let e : Entry = get_or list c.loop-listed.listed-index (entry 0 0) in
-    let same : list ≡ w.harbour.list = c.boats-boats.ensures in
+    let same : list ≡ w.harbour.list = c.boats-boats.ensures ∙ ap (λ (x : Book). x.list) c.harbour.ensures in
     let low : (boat_of w e.boat.0).standing.program < k = omega (arith, ap (λ (s : Boat). s.program) c.standing_of.ensures, c.if-standing_of-level.true) in
     sym (ap (outdated w k) (sym same) ∙ sym c.loop-listed.invariant ∙ at_drop_more (outdated w k) list c.loop-listed.listed-index (entry 0 0) c.loop-listed-test.true ∙ or_left _ _ (lt-ltb _ _ low))
 
@@ -34,5 +35,5 @@ returns c =
     let w : World = world c.args.self.now.fleet in
     let k : ℕ = c.args.level.0 in
     let list : List Entry = c.boats-boats.result.now in
-    let same : list ≡ w.harbour.list = c.boats-boats.ensures in
+    let same : list ≡ w.harbour.list = c.boats-boats.ensures ∙ ap (λ (x : Book). x.list) c.harbour.ensures in
     sym (ap (outdated w k) (sym same) ∙ sym c.loop-listed.invariant ∙ at_drop_all (outdated w k) list c.loop-listed.listed-index c.loop-listed-test.false)

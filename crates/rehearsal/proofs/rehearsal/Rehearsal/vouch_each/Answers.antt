@@ -3,6 +3,7 @@ use Rattle.std.proofs.lemmas.List.{at_drop_more, at_drop_all}
 use Rattle.std.proofs.lemmas.Bool.{lt-ltb, le-ltb, cond-true, cond-false}
 use Rattle.ledger.specs.declared.book.Entry.{Entry}
 use Rattle.ledger.specs.Entries.{entry}
+use Rattle.ledger.specs.Ledgers.{Book}
 use Rattle.world.specs.declared.events.Event.{Event}
 use Rattle.world.specs.declared.events.Event.TheVariants.{BringNotice}
 use Rattle.world.specs.declared.messages.Notice.{Notice}
@@ -38,8 +39,8 @@ returns c =
     let w : World = world c.args.self.now.fleet in
     let k : ℕ = c.args.level.0 in
     let list : List Entry = c.boats-boats.result.now in
-    let same : list ≡ w.harbour.list = c.boats-boats.ensures in
+    let same : list ≡ w.harbour.list = c.boats-boats.ensures ∙ ap (λ (x : Book). x.list) c.harbour.ensures in
     let left : List Entry → List Event = λ es. vouching w k es c.loop-listed.next in
-    let A : List Entry → List Event = λ es. vec_items c.args.events.now ++ vouching w k es (length c.as_slice-notices.result.now) in
+    let A : List Entry → List Event = λ es. vec_items c.args.events.now ++ vouching w k es (length c.notices-next.result.now) in
     let B : List Notice → List Event = λ ns. vec_items c.args.events.now ++ vouching w k w.harbour.list (length ns) in
-    finished (vec_items c.loop-listed.events) _ _ (at_drop_all left list c.loop-listed.listed-index c.loop-listed-test.false) c.loop-listed.invariant.0 ∙ ap A same ∙ ap B c.as_slice-notices.ensures.value
+    finished (vec_items c.loop-listed.events) _ _ (at_drop_all left list c.loop-listed.listed-index c.loop-listed-test.false) c.loop-listed.invariant.0 ∙ ap A same ∙ ap B c.notices-next.ensures
