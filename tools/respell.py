@@ -5,6 +5,7 @@ usage: python3 tools/respell.py [--list]     at the top of a repository that the
 
 Definitions, lemmas, constructors and labels that specs/ and proofs/ declare, and the ghost members of src/, are turned: goneBack is gone_back, and a lemma
 gone-back is gone_back too, or gone_back_lem where a definition has that name. A family of facts gets a capital. Functions, fields and files of src/ keep their names, and so do the names that the prover makes of them.
+A bare word of a comment is turned where the file's code has that name.
 --list prints the table alone. A name that would meet another stops the script, and nothing is written. A second run turns nothing.
 """
 
@@ -97,7 +98,7 @@ def main():
             print(f"{old}\t{new}")
     for old, new, where in met:
         print(f"respell: {old} would be {new}, which is there already: {where}", file=sys.stderr)
-    if met and "--force" not in sys.argv:
+    if met:
         raise SystemExit(2)
     if "--list" in sys.argv:
         return

@@ -7,3 +7,4 @@ pub mod Kept
 pub mod Lasts
 pub mod Vouches
 pub mod Rises
+mod Example
