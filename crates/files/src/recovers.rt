@@ -42,9 +42,8 @@ pub fn open_records<F: Format>(
 }
 
 // A fall leaves of a file of records, the last of which may be cut off, such a file, and takes nothing that was synced.
-pub fn falls_stand<F: Format>(format: &F) -> u8
+pub fn falls_stand<F: Format>(format: &F)
     ensures { FallsTorn (F.Format.known format.now) }
 {
     let _ = format;
-    0
 }

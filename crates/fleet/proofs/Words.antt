@@ -8,7 +8,7 @@ use Rattle.levels.specs.Verdicts.{Verdict, Number, Bad, Memory, verdict, Due, Tr
 use Rattle.levels.specs.Rules.{reads}
 use Rattle.forms.specs.Meaning.{Uttered, form_of}
 use Rattle.logbooks.specs.Logs.{Log, empty}
-use Rattle.world.specs.declared.messages.Sent.{Sent}
+use Rattle.forms.specs.declared.sent.Sent.{Sent}
 use Rattle.fleet.specs.declared.fleet.Berth.{Berth}
 use Rattle.fleet.specs.declared.fleet.Fleet.{Fleet}
 use Rattle.world.specs.Worlds.{World, BoatState, Said, place_of, state_at, log_at, at, logged, talked, talking, kept_by, taken, hearing_word, no_word, bringing_word}

@@ -8,7 +8,7 @@ use Rattle.ledger.specs.Ledgers.{book}
 use Rattle.forms.specs.Said.{meaning, said}
 use Rattle.logbooks.specs.declared.log.Logbook.{Logbook}
 use Rattle.logbooks.specs.Logs.{Log, log}
-use Rattle.world.specs.declared.messages.Sent.{Sent}
+use Rattle.forms.specs.declared.sent.Sent.{Sent}
 use Rattle.world.specs.Worlds.{World, Said, BoatState, start, place_of, state_at}
 use Rattle.fleet.specs.declared.fleet.Vessel.{Vessel}
 use Rattle.fleet.specs.declared.fleet.Berth.{Berth}

@@ -1,8 +1,9 @@
 // The harbour, the boats, and all that was ever sent.
+use forms::sent::Sent;
 use ledger::book::Ledger;
 use levels::standing::Standing;
 use logbooks::log::Logbook;
-use world::messages::{Notice, Sent};
+use world::messages::Notice;
 
 mod begins;
 mod reads;

@@ -2,5 +2,6 @@
 #![tactic(auto)]
 
 pub mod name;
+pub mod sent;
 pub mod shown;
 pub mod word;

@@ -47,8 +47,7 @@ pub fn show(program: Program, spoken: Spoken) -> Shown
 }
 
 // A program shows of a word just what its own greatest form has of it.
-pub fn shows_its_form_stands() -> u8
+pub fn shows_its_form_stands()
     ensures { ShowsItsForm }
 {
-    0
 }

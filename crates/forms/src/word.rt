@@ -87,9 +87,9 @@ impl Spoken {
         ensures { result ≡ ship_of (said self) }
     {
         match self {
-            Spoken::First { ship, .. } => ship,
-            Spoken::Second { ship, .. } => ship,
-            Spoken::Third { ship, .. } => ship,
+            Spoken::First { ship, .. }
+            | Spoken::Second { ship, .. }
+            | Spoken::Third { ship, .. } => ship,
         }
     }
 
@@ -135,8 +135,7 @@ impl Spoken {
 }
 
 // The laws of putting and reading.
-pub fn laws_stand() -> u8
+pub fn laws_stand()
     ensures { Laws }
 {
-    0
 }

@@ -1,6 +1,6 @@
 -- What each step makes of a boat's standing.
 -- Assumes nothing.
-use Rattle.std.specs.Prelude.{ℕ, max, cond, Ok, Err, Result, nat_le, nat_lt}
+use Rattle.std.specs.Prelude.{ℕ, ◌+◌, max, cond, Ok, Err, Result, nat_le, nat_lt}
 use Rattle.levels.specs.declared.standing.Standing.{Standing}
 use Rattle.levels.specs.Verdicts.{Verdict, Number, Bad}
 use Rattle.levels.specs.Rules.{Boat}
@@ -27,3 +27,7 @@ promised s = record { program = s.program; floor = s.program; level = s.level }
 
 abbrev pub raised : Boat → ℕ → Boat
 raised s k = record { program = s.program; floor = s.floor; level = max s.level k }
+
+-- the number after those that are used; at 2^32 they are used up, 6
+abbrev pub counting : ℕ → Result ℕ Verdict
+counting n = cond (nat_le 4294967296 (n + 1)) (Err (Number 6)) (Ok (n + 1))

@@ -24,21 +24,18 @@ impl Standing {
     }
 
     // A program at least as new.
-    pub fn renewed(self, to: Program) -> Result<Standing, Refusal>
+    pub fn renewed(mut self, to: Program) -> Result<Standing, Refusal>
         ensures { told view result ≡ spec.renewed (view self) to.0 }
     {
         if to < self.program {
             return Err(Refusal::Invalid);
         }
-        Ok(Standing {
-            program: to,
-            floor: self.floor,
-            level: self.level,
-        })
+        self.program = to;
+        Ok(self)
     }
 
     // An older program, not below the floor.
-    pub fn gone_back(self, to: Program) -> Result<Standing, Refusal>
+    pub fn gone_back(mut self, to: Program) -> Result<Standing, Refusal>
         ensures { told view result ≡ spec.gone_back (view self) to.0 }
     {
         if to >= self.program {
@@ -47,37 +44,25 @@ impl Standing {
         if to < self.floor {
             return Err(Refusal::BelowFloor);
         }
-        Ok(Standing {
-            program: to,
-            floor: self.floor,
-            level: self.level,
-        })
+        self.program = to;
+        Ok(self)
     }
 
     // The floor becomes the present program.
-    pub fn promised(self) -> Standing
+    pub fn promised(mut self) -> Standing
         ensures { view result ≡ spec.promised (view self) }
     {
-        Standing {
-            program: self.program,
-            floor: self.program,
-            level: self.level,
-        }
+        self.floor = self.program;
+        self
     }
 
     // A level that is heard is taken if it is above its own.
     pub fn raised(self, level: Level) -> Standing
         ensures { view result ≡ spec.raised (view self) level.0 }
     {
-        if self.level < level {
-            Standing {
-                program: self.program,
-                floor: self.floor,
-                level,
-            }
-        } else {
-            self
-        }
+        let mut raised = self;
+        raised.level = self.level.max(level);
+        raised
     }
 
     // The level up to which forms may be used towards another boat: its own level, whoever that is.

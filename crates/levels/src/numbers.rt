@@ -1,8 +1,19 @@
 // Numbers that a type keeps apart.
+ghost use Rattle.std.specs.Prelude.{◌≡◌};
+ghost use Rattle.levels.specs.Verdicts.{told};
+ghost use Rattle.levels.specs.Standings.{counting};
+
+use crate::refusals::Refusal;
+use std::fmt;
+use std::fmt::Display;
 
 // A boat's number. The harbour is number 0 and no boat.
 #[derive(Clone, Copy, PartialEq, Eq, PartialOrd, Ord, Debug)]
 pub struct BoatId(pub u16);
+
+impl BoatId {
+    pub const HARBOUR: BoatId = BoatId(0);
+}
 
 // A program's number, from 1 up; the newest has the highest. A floor is one, too: the program below which a boat has promised not to go.
 #[derive(Clone, Copy, PartialEq, Eq, PartialOrd, Ord, Debug)]
@@ -15,3 +26,41 @@ pub struct Level(pub u32);
 // The number of a form of speech: 1 to 3.
 #[derive(Clone, Copy, PartialEq, Eq, PartialOrd, Ord, Debug)]
 pub struct FormNumber(pub u8);
+
+impl fmt::Display for BoatId {
+    fn fmt<W: fmt::Write>(&self, f: &mut fmt::Formatter<W>) -> fmt::Result {
+        self.0.fmt(f)
+    }
+}
+
+impl fmt::Display for Program {
+    fn fmt<W: fmt::Write>(&self, f: &mut fmt::Formatter<W>) -> fmt::Result {
+        self.0.fmt(f)
+    }
+}
+
+impl fmt::Display for Level {
+    fn fmt<W: fmt::Write>(&self, f: &mut fmt::Formatter<W>) -> fmt::Result {
+        self.0.fmt(f)
+    }
+}
+
+impl fmt::Display for FormNumber {
+    fn fmt<W: fmt::Write>(&self, f: &mut fmt::Formatter<W>) -> fmt::Result {
+        self.0.fmt(f)
+    }
+}
+
+// Where the numbers of a boat's words are used up.
+const NUMBERS_END: u64 = 4294967296;
+
+// The number of a boat's next word, after those that are used; once they are used up there is none, 6.
+pub fn next_number(used: u32) -> Result<u32, Refusal>
+    ensures { told (λ n. n) result ≡ counting used }
+{
+    let next = used as u64 + 1;
+    if next >= NUMBERS_END {
+        return Err(Refusal::Full);
+    }
+    Ok(next as u32)
+}

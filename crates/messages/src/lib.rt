@@ -1,6 +1,9 @@
 // What stations say to each other.
 #![tactic(auto)]
 
+ghost use Rattle.std.specs.Prelude.{◌≡◌};
+ghost use Rattle.messages.specs.Messages.{letter, telling, notice};
+
 use forms::word::Spoken;
 use levels::numbers::{BoatId, Level, Program};
 
@@ -26,4 +29,18 @@ pub struct Message {
     pub to: BoatId,
     pub number: u32,
     pub body: Body,
+}
+
+impl Message {
+    // What is no word has the number 0.
+    pub fn notice(from: BoatId, to: BoatId, body: Body) -> Message
+        ensures { letter result ≡ notice from.0 to.0 (telling body) }
+    {
+        Message {
+            from,
+            to,
+            number: 0,
+            body,
+        }
+    }
 }

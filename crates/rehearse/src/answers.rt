@@ -1,9 +1,10 @@
 // What is printed of a step and of a message.
+use forms::sent::Sent;
 use levels::numbers::{BoatId, Program};
 use script::faults::Fault;
 use std::fmt;
 use std::io::{BufWriter, Stdout};
-use world::messages::{Notice, Sent};
+use world::messages::Notice;
 
 // Where all is printed.
 pub type Output = BufWriter<Stdout>;

@@ -1,5 +1,6 @@
 // The table of the boats.
 use crate::answers::Output;
+use forms::sent::Sent;
 use levels::numbers::{BoatId, FormNumber, Program};
 use levels::rules::{newest, reads};
 use levels::standing::Standing;
@@ -8,7 +9,6 @@ use rehearsal::rehearsal::Rehearsal;
 use std::alloc::{AllocError, Global};
 use std::io;
 use std::io::Write;
-use world::messages::Sent;
 
 // Is a form on the air: was a word ever sent in it?
 fn on_air(words: &[Sent], form: FormNumber) -> bool {

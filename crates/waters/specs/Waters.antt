@@ -16,7 +16,7 @@ use Rattle.berths.specs.declared.vessel.Vessel.{Vessel}
 use Rattle.berths.specs.Calls.{Refuses}
 use Rattle.berths.specs.Vessels.{vessel_of, afloat, stepped, begun}
 use Rattle.berths.specs.Ports.{port_of}
-use Rattle.waters.specs.declared.sent.Sent.{Sent}
+use Rattle.forms.specs.declared.sent.Sent.{Sent}
 use Rattle.waters.specs.declared.waters.Waters.{Waters}
 use Rattle.waters.specs.declared.waters.orders.Order.{Order}
 use Rattle.waters.specs.declared.waters.orders.Order.TheVariants.{Hear, Promise, Tick, Rest, Open}

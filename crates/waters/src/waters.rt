@@ -2,9 +2,9 @@
 ghost use Rattle.std.specs.Prelude.{◌≡◌, true};
 ghost use Rattle.waters.specs.Numbers.{numbered};
 
-use crate::sent::Sent;
 use berths::port::Port;
 use berths::vessel::Vessel;
+use forms::sent::Sent;
 use messages::Message;
 use std::alloc::Global;
 

@@ -2,8 +2,7 @@
 ghost use Rattle.world.specs.Cases.{CasesHold};
 
 // Every row of the table of worked cases holds.
-pub fn cases_stand() -> u8
+pub fn cases_stand()
     ensures { CasesHold }
 {
-    0
 }

@@ -1,16 +1,5 @@
 // What is said. A message may come at once, late, more than once, or never.
-use forms::word::{Spoken, Word};
 use levels::numbers::{BoatId, Level, Program};
-
-// A word of one boat to another, as it went out: numbered, and in some form. Beside it stands the word that was given to be said, which nobody but the rehearsal knows.
-#[derive(Clone, Copy)]
-pub struct Sent {
-    pub from: BoatId,
-    pub to: BoatId,
-    pub number: u32,
-    pub given: Word,
-    pub spoken: Spoken,
-}
 
 // What boats and harbour tell each other about programs. Each states a fact that stays true for ever.
 #[derive(Clone, Copy)]

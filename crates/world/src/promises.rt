@@ -3,22 +3,19 @@ ghost use Rattle.world.specs.Promises.{RunLasts, RunPromises};
 ghost use Rattle.world.specs.Rising.{RunRises};
 
 // Nothing that was sent is ever taken away.
-pub fn lasts_stands() -> u8
+pub fn lasts_stands()
     ensures { RunLasts }
 {
-    0
 }
 
 // After every list of events from the start all is as promised.
-pub fn promises_stand() -> u8
+pub fn promises_stand()
     ensures { RunPromises }
 {
-    0
 }
 
 // After every list of events from the start, a level that the programs of the list allow can rise.
-pub fn rising_stands() -> u8
+pub fn rising_stands()
     ensures { RunRises }
 {
-    0
 }

@@ -4,9 +4,10 @@ ghost use Rattle.ledger.specs.Ledgers.{book};
 ghost use Rattle.fleet.specs.Fleets.{world, states, all_logs, all_sent};
 
 use super::{Fleet, Vessel};
+use forms::sent::Sent;
 use ledger::book::Ledger;
 use logbooks::log::Logbook;
-use world::messages::{Notice, Sent};
+use world::messages::Notice;
 
 impl Fleet {
     // The boats: boat number i is at place i - 1.

@@ -10,6 +10,7 @@ ghost use Rattle.fleet.specs.Fleets as fleets;
 ghost use Rattle.world.specs.Worlds as spec;
 
 use super::{Berth, Fleet, Vessel};
+use forms::sent::Sent;
 use forms::word::Spoken;
 use ledger::book::{Entry, Ledger};
 use levels::numbers::{BoatId, Level, Program};
@@ -18,7 +19,7 @@ use levels::rules::reads;
 use levels::standing::Standing;
 use std::alloc::Global;
 use world::events::Event;
-use world::messages::{Notice, Sent};
+use world::messages::Notice;
 
 // Where the numbers of a boat's words are used up.
 const NUMBERS_END: u64 = 4294967296;

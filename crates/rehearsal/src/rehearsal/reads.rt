@@ -5,9 +5,10 @@ ghost use Rattle.fleet.specs.Fleets.{world, states, all_logs, all_sent};
 
 use super::Rehearsal;
 use fleet::fleet::Vessel;
+use forms::sent::Sent;
 use ledger::book::Ledger;
 use logbooks::log::Logbook;
-use world::messages::{Notice, Sent};
+use world::messages::Notice;
 
 impl Rehearsal {
     // The boats: boat number i is at place i - 1.

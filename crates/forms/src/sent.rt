@@ -1,5 +1,5 @@
 // A word that was sent.
-use forms::word::{Spoken, Word};
+use crate::word::{Spoken, Word};
 use levels::numbers::BoatId;
 
 // A word of one boat to another, as it went out: numbered, and in some form. Beside it stands the word that was given to be said, which no station knows.
