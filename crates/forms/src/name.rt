@@ -5,10 +5,13 @@ use levels::refusals::Refusal;
 
 mod makes;
 
-// At most 40 bytes. No second name is the name of no bytes, and nothing else.
+// How long a name may be.
+const MOST: usize = 40;
+
+// At most 40 bytes. No second name is the name of no bytes, and nothing else. The bytes lie in place, so that a word is a plain value that is copied and needs no memory; the library has no list in place that is copied.
 #[derive(Clone, Copy)]
 pub struct Name {
-    bytes: [u8; 40],
+    bytes: [u8; MOST],
     len: usize,
     ghost short: { len ≤ 40 },
 }

@@ -26,16 +26,8 @@ pub fn show(program: Program, spoken: Spoken) -> Shown
 {
     let word = spoken.read();
     let newest = newest(program).0;
-    let behind = if newest >= program2::GREATEST_FORM {
-        Some(word.behind)
-    } else {
-        None
-    };
-    let name = if newest >= program3::GREATEST_FORM {
-        Some(word.name)
-    } else {
-        None
-    };
+    let behind = (newest >= program2::GREATEST_FORM).then_some(word.behind);
+    let name = (newest >= program3::GREATEST_FORM).then_some(word.name);
     Shown {
         ship: word.ship,
         lock: word.lock,

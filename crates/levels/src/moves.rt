@@ -85,7 +85,7 @@ impl Standing {
     pub fn keep_form(self, came: FormNumber) -> FormNumber
         ensures { result.0 ≡ rules.keep_form (view self) came.0 }
     {
-        let own = self.level.0.min(newest(self.program).0 as u32) as u8;
-        FormNumber(came.0.min(own))
+        let own = FormNumber(self.level.0.min(newest(self.program).0 as u32) as u8);
+        came.min(own)
     }
 }

@@ -44,11 +44,7 @@ impl Refusal {
     pub fn passes_over(self) -> bool
         ensures { result ≡ passes (verdict self) }
     {
-        match self {
-            Refusal::OlderNumber => true,
-            Refusal::NotListed => true,
-            _ => false,
-        }
+        matches!(self, Refusal::OlderNumber | Refusal::NotListed)
     }
 }
 

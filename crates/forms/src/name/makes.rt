@@ -3,11 +3,8 @@ ghost use Rattle.std.specs.Prelude.{◌≡◌, []};
 ghost use Rattle.levels.specs.Verdicts.{told};
 ghost use Rattle.forms.specs.Names.{name_of, naming};
 
-use super::Name;
+use super::{MOST, Name};
 use levels::refusals::Refusal;
-
-// How long a name may be.
-const MOST: usize = 40;
 
 impl Name {
     // No second name.
@@ -15,7 +12,7 @@ impl Name {
         ensures { name_of result ≡ [] }
     {
         Name {
-            bytes: [0; 40],
+            bytes: [0; MOST],
             len: 0,
         }
     }
@@ -28,8 +25,8 @@ impl Name {
         if len > MOST {
             return Err(Refusal::Malformed);
         }
-        let mut bytes = [0; 40];
-        bytes[0..len].copy_from_slice(name);
+        let mut bytes = [0; MOST];
+        bytes[..len].copy_from_slice(name);
         Ok(Name { bytes, len })
     }
 
@@ -37,6 +34,6 @@ impl Name {
     pub fn as_bytes(&self) -> &[u8]
         ensures { result.now ≡ name_of self.now }
     {
-        &self.bytes[0..self.len]
+        &self.bytes[..self.len]
     }
 }
