@@ -1,13 +1,15 @@
 -- The words of a journal as it lies in its file.
 -- Assumes nothing.
-use Rattle.std.proofs.Common.{◌≡◌, ℕ, suc, ◌+◌, ◌<◌, ◌≤◌, Bool, true, false, cond, not, eqb, ltb, leb, List, [], ◌∷◌, ◌++◌, length, get_or, take, drop, is_some, Some, None, Ok, Err, vec_items, Option, sym, refl, ap, ◌∙◌, subst, suc-le-suc, zero-le, le_trans, le_refl, arith}
+use Rattle.std.proofs.Common.{◌≡◌, ℕ, suc, ◌+◌, ◌<◌, ◌≤◌, Bool, true, false, cond, not, eqb, ltb, leb, List, [], ◌∷◌, ◌++◌, length, get_or, take, drop, is_some, Some, None, Ok, Err, Option, sym, refl, ap, ◌∙◌, subst, suc-le-suc, zero-le, le_trans, le_refl, arith}
 use Rattle.std.proofs.lemmas.List.{length-map}
 use Rattle.std.proofs.lemmas.Bool.{and_parts, le-leb, lt-leb, leb-true}
 use Rattle.levels.specs.Verdicts.{Verdict, Number, Bad, Memory, Due}
 use Rattle.forms.specs.Meaning.{ship_of}
 use Rattle.logbooks.specs.declared.log.Logbook.{Logbook}
 use Rattle.logbooks.specs.Logs as logs
-use Rattle.logbooks.specs.Slots.{Kept, kept}
+use Rattle.std.specs.BTreeMap.{values, btree_map_len}
+use Rattle.logbooks.specs.Slots.{Kept}
+use Rattle.logbooks.specs.Ships.{slots_of}
 use Rattle.logbooks.specs.Logs.{Log, slot_of, placed, slot, crowded, restored}
 use Rattle.records.specs.declared.Record.{Record}
 use Rattle.records.specs.Records.{Written, written, floor_is, level_is, word_is, boat_is, used_to}
@@ -98,8 +100,7 @@ refused_at xs i r x v h g e d =
 -- a table that there is has place for all
 pub fits : (l : Logbook) (rs : List Written) → logs.log l ≡ journal.log rs → leb (length (journal.slots rs)) 4096 ≡ true
 fits l rs e =
-    let n = length-map (vec_items l.slots) kept in
-    let m = l.slots.ok.0 in
-    let f : length (journal.slots rs) ≡ length (logs.kept_all (vec_items l.slots)) = sym (ap (λ (x : Log). length x.slots) e) in
+    let n : length (logs.kept_all (slots_of (values l.ships))) ≡ btree_map_len l.ships = simp length-map in
+    let f : length (journal.slots rs) ≡ length (logs.kept_all (slots_of (values l.ships))) = sym (ap (λ (x : Log). length x.slots) e) in
     let few = l.few in
-    le-leb _ _ (omega (arith, n, m, f, few))
+    le-leb _ _ (omega arith)

@@ -1,4 +1,4 @@
-mod Lasts
-mod Tables
+mod Ships
+mod Puts
+mod Falls
 pub mod Taking
-pub mod Falls

@@ -1,29 +1,27 @@
 -- When a word is taken, and when not.
 -- Assumes nothing.
-use Rattle.std.proofs.Common.{◌≡◌, ℕ, ◌<◌, ◌≤◌, Bool, true, false, cond, not, ◌&&◌, eqb, leb, length, is_some, Some, None, Ok, Err, Option, Result, sym, refl, ap, ◌∙◌, arith}
+use Rattle.std.proofs.Common.{◌≡◌, ℕ, max, Bool, true, false, cond, ◌&&◌, eqb, leb, Some, None, Ok, Err, Option, Result, sym, refl, ap, ◌∙◌, arith}
+use Rattle.std.specs.Option.{MatchOption}
 use mathlib.Core.Path.{fun_ext}
-use Rattle.std.proofs.lemmas.Bool.{and_from, and_left, and_right, eq-eqb, eqb-true, le-leb, lt-leb, cond-true, cond-false}
+use Rattle.std.proofs.lemmas.Bool.{and_from, and_left, and_right, eq-eqb, eqb-true, cond-false}
 use Rattle.std.proofs.lemmas.Bool.Decides.{nat_tests}
 use Rattle.levels.specs.Verdicts.{Verdict, Number}
 use Rattle.forms.specs.Meaning.{Uttered, ship_of}
 use Rattle.logbooks.specs.Slots.{Kept, keeping}
-use Rattle.logbooks.specs.Logs.{Log, slot_of, older, noted, placed, entered, entered_to, taking, slot, higher, restored, restoring}
+use Rattle.logbooks.specs.Logs.{Log, older, noted, placed, entered_to, crowded, putting, taking, slot, higher, restored, restoring}
 
-module _ (x : Log) (b n : ℕ) (u : Uttered) (k : ℕ) (new : older (x.lasts b (ship_of u)) n ≡ false) where
-  -- a ship that has a slot
-  pub taking_known : (s : Kept) → s ≡ keeping b n u k → is_some (slot_of (ship_of u) x.slots) ≡ true → taking x b n u k ≡ Ok (entered x s)
-  taking_known s e f =
-      let F : Kept → Result Log Verdict = λ t. Ok (entered x t) in
-      cond-false _ _ _ new ∙ cond-false _ _ _ (and_left (not (is_some (slot_of (ship_of u) x.slots))) (leb 4096 (length x.slots)) (ap not f)) ∙ ap F (sym e)
+-- what a test of the last number says, and a choice by it
+pub older_is : (o : Option ℕ) (n : ℕ) (r : Bool) (Q : ℕ → Type 0) → ((m : ℕ) → Q m → r ≡ leb n m) → MatchOption o (r ≡ false) Q → r ≡ older o n
+older_is None n r Q f h = h
+older_is (Some m) n r Q f h = f m h
 
-  -- one that has none, while there is place
-  pub taking_new : (s : Kept) → s ≡ keeping b n u k → length x.slots < 4096 → taking x b n u k ≡ Ok (entered x s)
-  taking_new s e l =
-      let F : Kept → Result Log Verdict = λ t. Ok (entered x t) in
-      cond-false _ _ _ new ∙ cond-false _ _ _ (and_right (not (is_some (slot_of (ship_of u) x.slots))) (leb 4096 (length x.slots)) (lt-leb 4096 (length x.slots) l)) ∙ ap F (sym e)
+pub higher_is : (o : Option ℕ) (n r : ℕ) (Q : ℕ → Type 0) → ((m : ℕ) → Q m → r ≡ max n m) → MatchOption o (r ≡ n) Q → Some r ≡ higher (Some n) o
+higher_is None n r Q f h = ap Some h
+higher_is (Some m) n r Q f h = ap Some (f m h)
 
-  pub taking_full : slot_of (ship_of u) x.slots ≡ None → 4096 ≤ length x.slots → taking x b n u k ≡ Err (Number 6)
-  taking_full f l = cond-false _ _ _ new ∙ cond-true _ _ _ (and_from (not (is_some (slot_of (ship_of u) x.slots))) (leb 4096 (length x.slots)) (ap (λ o. not (is_some o)) f) (le-leb 4096 (length x.slots) l))
+-- a number that is not older
+pub taking_puts : (x : Log) (b n : ℕ) (u : Uttered) (k : ℕ) → older (x.lasts b (ship_of u)) n ≡ false → (s : Kept) → s ≡ keeping b n u k → taking x b n u k ≡ putting x s n
+taking_puts x b n u k new s e = cond-false _ _ _ new ∙ ap (λ t. putting x t n) (sym e)
 
 -- a word of a file
 module _ (x : Log) (b n m : ℕ) (u : Uttered) (top : Some m ≡ higher (Some n) (x.lasts b (ship_of u))) where
@@ -48,15 +46,5 @@ module _ (x : Log) (b n m : ℕ) (u : Uttered) (top : Some m ≡ higher (Some n)
       let F : (ℕ → ℕ → Option ℕ) → Result Log Verdict = λ f. Ok (record { slots = placed (slot b n u) x.slots; lasts = f }) in
       sym (ap F (fun_ext (λ c. fun_ext (λ t. noted_higher c t))))
 
-  pub restoring_known : (s : Kept) → s ≡ slot b n u → is_some (slot_of (ship_of u) x.slots) ≡ true → restoring x b n u ≡ Ok (entered_to x s m)
-  restoring_known s e f =
-      let F : Kept → Result Log Verdict = λ t. Ok (entered_to x t m) in
-      cond-false _ _ _ (and_left (not (is_some (slot_of (ship_of u) x.slots))) (leb 4096 (length x.slots)) (ap not f)) ∙ restored_is ∙ ap F (sym e)
-
-  pub restoring_new : (s : Kept) → s ≡ slot b n u → length x.slots < 4096 → restoring x b n u ≡ Ok (entered_to x s m)
-  restoring_new s e l =
-      let F : Kept → Result Log Verdict = λ t. Ok (entered_to x t m) in
-      cond-false _ _ _ (and_right (not (is_some (slot_of (ship_of u) x.slots))) (leb 4096 (length x.slots)) (lt-leb 4096 (length x.slots) l)) ∙ restored_is ∙ ap F (sym e)
-
-pub restoring_full : (x : Log) (b n : ℕ) (u : Uttered) → slot_of (ship_of u) x.slots ≡ None → 4096 ≤ length x.slots → restoring x b n u ≡ Err (Number 6)
-restoring_full x b n u f l = cond-true _ _ _ (and_from (not (is_some (slot_of (ship_of u) x.slots))) (leb 4096 (length x.slots)) (ap (λ o. not (is_some o)) f) (le-leb 4096 (length x.slots) l))
+  pub restoring_puts : (s : Kept) → s ≡ slot b n u → restoring x b n u ≡ putting x s m
+  restoring_puts s e = ap (λ r. cond (crowded x (ship_of u)) (Err (Number 6)) r) restored_is ∙ ap (λ t. putting x t m) (sym e)

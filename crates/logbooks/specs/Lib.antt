@@ -1,3 +1,3 @@
 pub mod Slots
-pub mod Tables
+pub mod Ships
 pub mod Logs

@@ -1,13 +1,14 @@
 -- What a boat keeps of the words that it takes.
 -- Assumes nothing.
-use Rattle.std.specs.Prelude.{ℕ, max, Bool, false, cond, not, ◌&&◌, List, [], ◌∷◌, map, length, is_some, Some, None, Ok, Err, vec_items, Option, Result, ◌==◌, nat_le, nat_lt}
-use Rattle.std.specs.BTreeMap.{get}
+use Rattle.std.specs.Prelude.{ℕ, max, Bool, false, cond, not, ◌&&◌, List, [], ◌∷◌, map, length, is_some, Some, None, Ok, Err, Option, Result, ◌==◌, nat_le, nat_lt}
+use Rattle.std.specs.BTreeMap.{get, values}
 use Rattle.levels.specs.Verdicts.{Verdict, Number}
 use Rattle.forms.specs.Meaning.{Uttered, ship_of}
 use Rattle.logbooks.specs.declared.slot.Slot.{Slot}
 use Rattle.logbooks.specs.declared.log.Logbook.{Logbook}
 use Rattle.logbooks.specs.Slots.{Kept, kept, keeping, forgotten}
-use Rattle.std.specs.Ordering.{nat_cmp, ordering_then}
+use Rattle.logbooks.specs.Ships.{slots_of, last_of}
+use Rattle.std.specs.Ordering.{nat_cmp}
 
 -- slots: the last word of each ship, by rising numbers of ships; lasts: the last number taken from a boat about a ship
 pub record Log : Type 0 where
@@ -18,7 +19,7 @@ abbrev pub kept_all : List Slot → List Kept
 kept_all = map kept
 
 abbrev pub log : Logbook → Log
-log l = record { slots = kept_all (vec_items l.slots); lasts = λ b s. get (λ x y. ordering_then (nat_cmp x.0 y.0) (nat_cmp x.1 y.1)) l.lasts (b, s) }
+log l = record { slots = kept_all (slots_of (values l.ships)); lasts = λ b s. last_of (get nat_cmp l.ships s) b }
 
 abbrev pub empty : Log
 empty = record { slots = []; lasts = λ b s. None }
@@ -52,6 +53,10 @@ entered x s = record { slots = placed s x.slots; lasts = noted x.lasts s.from s.
 -- there is no place for one more ship
 abbrev pub crowded : Log → ℕ → Bool
 crowded x s = not (is_some (slot_of s x.slots)) && nat_le 4096 (length x.slots)
+
+-- a slot is entered, and some last number noted, where there is place
+abbrev pub putting : Log → Kept → ℕ → Result Log Verdict
+putting x s n = cond (crowded x s.ship) (Err (Number 6)) (Ok (entered_to x s n))
 
 -- a word with the number n comes from boat b and is kept in a form of at most k. An older number is passed over, 2; a ship for which there is no place is refused, 6
 abbrev pub taking : Log → ℕ → ℕ → Uttered → ℕ → Result Log Verdict

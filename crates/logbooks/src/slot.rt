@@ -22,14 +22,12 @@ impl Slot {
         ensures { kept result ≡ keeping from.0 number (said came) most.0 }
     {
         let form = came.form();
-        let newer = if form.0 <= most.0 { None } else { Some(came) };
-        let word = came.read().put(FormNumber(form.0.min(most.0)));
         Slot {
             ship: came.ship(),
             from,
             number,
-            word,
-            newer,
+            word: came.read().put(form.min(most)),
+            newer: (form > most).then_some(came),
         }
     }
 
@@ -37,6 +35,7 @@ impl Slot {
     pub fn shown(&self) -> Spoken
         ensures { said result ≡ shown_of (kept self.now) }
     {
+        // A match that returns one of two words: a rule of the project.
         match self.newer {
             Some(newer) => newer,
             None => self.word,

@@ -22,12 +22,7 @@ fn on_air(words: &[Sent], form: FormNumber) -> bool {
 
 // Does a boat keep a word in a form?
 fn is_kept(log: &Logbook, form: FormNumber) -> bool {
-    for slot in log.slots() {
-        if slot.word.form() == form {
-            return true;
-        }
-    }
-    false
+    log.ships().any(|ship| ship.slot.word.form() == form)
 }
 
 // Is there a boat that keeps a word in a form?

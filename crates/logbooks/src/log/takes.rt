@@ -1,46 +1,32 @@
 // What a boat does with the words that it keeps.
-ghost use Rattle.std.specs.Prelude.{◌≡◌, ◌<◌, Some, Ok, Err, vec_len, vec_capacity};
+ghost use Rattle.std.specs.Prelude.{◌≡◌, ◌≤◌, length};
+ghost use Rattle.std.specs.Map.Iter.{ShowsInOrder, deref};
 ghost use Rattle.forms.specs.Said.{said};
 ghost use Rattle.levels.specs.Verdicts.{Tries};
-ghost use Rattle.logbooks.specs.Logs.{log, empty, kept_all, taking, restoring, higher, fallen};
-ghost use Rattle.logbooks.specs.Logs as spec;
+ghost use Rattle.logbooks.specs.Logs.{log, empty, kept_all, putting, taking, restoring, fallen};
+ghost use Rattle.logbooks.specs.Ships.{slots_of};
 ghost use Rattle.logbooks.specs.Slots.{kept};
-ghost use Rattle.logbooks.specs.Tables.{Placed};
 
-use super::Logbook;
-use crate::slot::{Slot, write};
+use super::{Logbook, Ship};
+use crate::slot::Slot;
 use forms::word::Spoken;
 use levels::numbers::{BoatId, FormNumber};
 use levels::refusals::Refusal;
 use std::alloc::Global;
 use std::collections::BTreeMap;
+use std::collections::btree_map::Values;
 
 // How many ships there is place for.
 const MOST: usize = 4096;
 
 impl Logbook {
-    // Where a ship's slot stands, or where it would.
-    fn place(&self, ship: u32) -> Result<usize, usize>
-        ensures { Placed self.now.slots.items ship result }
-    {
-        for (i, slot) in self.slots.iter().enumerate() {
-            if slot.ship == ship {
-                return Ok(i);
-            }
-            if ship < slot.ship {
-                return Err(i);
-            }
-        }
-        Err(self.slots.len())
-    }
-
     // Nothing is kept yet.
     pub fn new(heap: Global) -> Logbook
         ensures { log result ≡ empty }
     {
         Logbook {
-            slots: Vec::new(heap),
-            lasts: BTreeMap::new(heap),
+            heap,
+            ships: BTreeMap::new(heap),
         }
     }
 
@@ -48,61 +34,33 @@ impl Logbook {
     pub fn last(&self, from: BoatId, ship: u32) -> Option<u32>
         ensures { result ≡ (log self.now).lasts from.0 ship }
     {
-        self.lasts.get(&(from.0, ship)).copied()
+        self.ships.get(&ship)?.last(from)
     }
 
-    // The slots, by rising numbers of ships.
-    pub fn slots(&self) -> &[Slot]
-        ensures { kept_all result.now ≡ (log self.now).slots }
+    // The ships, by rising numbers.
+    pub fn ships(&self) -> Values<'_, u32, Ship>
+        ensures slots { kept_all (slots_of result) ≡ (log self.now).slots }
+        ensures few { length result ≤ 4096 }
+        ensures runs { ShowsInOrder (deref {X = Ship}) }
     {
-        self.slots.as_slice()
+        self.ships.values()
     }
 
-    // Is a number not above the last one that was taken from that boat about that ship?
-    fn is_older(&self, from: BoatId, ship: u32, number: u32) -> bool
-        ensures { result ≡ spec.older ((log self.now).lasts from.0 ship) number }
+    // A slot is written, and a last number noted. There is place for so many ships.
+    fn put(&mut self, slot: Slot, last: u32) -> Result<(), Refusal>
+        ensures { Tries (putting (log self.old) (kept slot) last) result (log self.old) (log self.new) }
     {
-        match self.last(from, ship) {
-            Some(last) => number <= last,
-            None => false,
+        match self.ships.get_mut(&slot.ship) {
+            Some(ship) => ship.note(slot, last),
+            None => {
+                if self.ships.len() >= MOST {
+                    return Err(Refusal::Full);
+                }
+                self.ships
+                    .insert(slot.ship, Ship::new(self.heap, slot, last)?)?;
+                Ok(())
+            }
         }
-    }
-
-    // The slot of a ship that has one is written anew, and a last number noted.
-    fn renew(&mut self, place: usize, slot: Slot, last: u32) -> Result<(), Refusal>
-        requires { Placed self.old.slots.items slot.ship (Ok place) }
-        ensures { Tries (Ok (spec.entered_to (log self.old) (kept slot) last)) result (log self.old) (log self.new) }
-    {
-        self.lasts.insert((slot.from.0, slot.ship), last)?;
-        write(&mut self.slots[place], slot);
-        Ok(())
-    }
-
-    // A ship that has none gets a slot, and a last number is noted.
-    fn enter(&mut self, place: usize, slot: Slot, last: u32) -> Result<(), Refusal>
-        requires { (Placed self.old.slots.items slot.ship (Err place)) × (vec_len self.old.slots < 4096) }
-        ensures { Tries (Ok (spec.entered_to (log self.old) (kept slot) last)) result (log self.old) (log self.new) }
-    {
-        self.slots.reserve(1)?;
-        self.lasts.insert((slot.from.0, slot.ship), last)?;
-        self.slots.insert(place, slot)?;
-        Ok(())
-    }
-
-    // The slot of a ship that has one is written anew.
-    fn replace(&mut self, place: usize, slot: Slot) -> Result<(), Refusal>
-        requires { Placed self.old.slots.items slot.ship (Ok place) }
-        ensures { Tries (Ok (spec.entered (log self.old) (kept slot))) result (log self.old) (log self.new) }
-    {
-        self.renew(place, slot, slot.number)
-    }
-
-    // A ship that has none gets a slot.
-    fn insert(&mut self, place: usize, slot: Slot) -> Result<(), Refusal>
-        requires { (Placed self.old.slots.items slot.ship (Err place)) × (vec_len self.old.slots < 4096) }
-        ensures { Tries (Ok (spec.entered (log self.old) (kept slot))) result (log self.old) (log self.new) }
-    {
-        self.enter(place, slot, slot.number)
     }
 
     // Takes a word that came, and keeps it in a form of at most `most`. An older number is passed over; there is place for so many ships.
@@ -115,30 +73,13 @@ impl Logbook {
     ) -> Result<(), Refusal>
         ensures { Tries (taking (log self.old) from.0 number (said came) most.0) result (log self.old) (log self.new) }
     {
-        let ship = came.ship();
-        if self.is_older(from, ship, number) {
+        if self
+            .last(from, came.ship())
+            .is_some_and(|last| number <= last)
+        {
             return Err(Refusal::OlderNumber);
         }
-        let slot = Slot::new(from, number, came, most);
-        match self.place(ship) {
-            Ok(place) => self.replace(place, slot),
-            Err(place) => {
-                if self.slots.len() >= MOST {
-                    return Err(Refusal::Full);
-                }
-                self.insert(place, slot)
-            }
-        }
-    }
-
-    // The higher of a number and the last one that is known from a boat about a ship.
-    fn highest(&self, from: BoatId, ship: u32, number: u32) -> u32
-        ensures { Some result ≡ higher (Some number) ((log self.now).lasts from.0 ship) }
-    {
-        match self.last(from, ship) {
-            Some(last) => number.max(last),
-            None => number,
-        }
+        self.put(Slot::new(from, number, came, most), number)
     }
 
     // Takes a word as a record of a file has it, whatever its number: the last record of a ship holds, and of the numbers the highest.
@@ -146,7 +87,9 @@ impl Logbook {
         ensures { Tries (restoring (log self.old) from.0 number (said word)) result (log self.old) (log self.new) }
     {
         let ship = word.ship();
-        let last = self.highest(from, ship, number);
+        let last = self
+            .last(from, ship)
+            .map_or(number, |last| number.max(last));
         let slot = Slot {
             ship,
             from,
@@ -154,23 +97,16 @@ impl Logbook {
             word,
             newer: None,
         };
-        match self.place(ship) {
-            Ok(place) => self.renew(place, slot, last),
-            Err(place) => {
-                if self.slots.len() >= MOST {
-                    return Err(Refusal::Full);
-                }
-                self.enter(place, slot, last)
-            }
-        }
+        self.put(slot, last)
     }
 
-    // The power goes: nothing newer than what is kept is known any more.
+    // The power goes: nothing newer than what is kept is known any more. The library says what is written in `retain`, and of a loop over `values_mut` it doesn't.
     pub fn fall(&mut self)
         ensures { log self.new ≡ fallen (log self.old) }
     {
-        for slot in self.slots.iter_mut() {
-            slot.newer = None;
-        }
+        self.ships.retain(|_, ship| {
+            ship.slot.newer = None;
+            true
+        });
     }
 }

@@ -29,7 +29,8 @@ impl Player {
         else {
             return Ok(());
         };
-        for slot in log.slots() {
+        for ship in log.ships() {
+            let slot = &ship.slot;
             let line = Line {
                 shown: show(standing.program, slot.shown()),
                 from: slot.from,
