@@ -6,8 +6,7 @@ use Rattle.std.proofs.lemmas.List.{append_assoc, append-nil, take_at, take_all}
 use Rattle.std.proofs.lemmas.Bool.{cond-true, cond-false, le-leb}
 use Rattle.std.proofs.lemmas.Bool.Decides.{leb_tells}
 use lib.Seq.{take-nil, take-append-add}
-use Rattle.files.specs.declared.front.Front.{Front}
-use Rattle.files.specs.declared.front.Front.TheVariants.{Whole, Short}
+use Rattle.files.specs.Fronts.{Front}
 use Rattle.files.specs.Holdings.{Held, file, ended, cut_to}
 use Rattle.files.specs.Recovery.{records, together, whole_part, AllKnown, wholes}
 use Rattle.files.specs.Falls.{Finished, Settled, Fallen, Stepped, Opened}
@@ -87,7 +86,7 @@ falls_torn known rs h t = (torn_end known rs h t, λ left. torn_cut known rs h l
 torn_whole : (known : List ℕ → Type 0) (rs : List (List ℕ)) (h : Held) → AllKnown known rs → h.synced ≡ together rs → h.pending ≡ [] → Torn known rs h
 torn_whole known rs h a s p = record { all = a; safe = s; behind = ([], tt, (0, p)) }
 
-module _ (front : List ℕ → Front) (known : List ℕ → Type 0) (within : Within front) (stays : (bs more : List ℕ) → known bs → front (bs ++ more) ≡ Whole (length bs)) (short : (bs : List ℕ) (n : ℕ) → known bs → n < length bs → front (take n bs) ≡ Short) where
+module _ (front : List ℕ → Front) (known : List ℕ → Type 0) (within : Within front) (stays : (bs more : List ℕ) → known bs → front (bs ++ more) ≡ Ok (Some (length bs))) (short : (bs : List ℕ) (n : ℕ) → known bs → n < length bs → front (take n bs) ≡ Ok None) where
   known_append : (rs qs : List (List ℕ)) → AllKnown known rs → AllKnown known qs → AllKnown known (rs ++ qs)
   known_append [] qs a b = b
   known_append (x ∷ rs) qs a b = (a.0, known_append rs qs a.1 b)

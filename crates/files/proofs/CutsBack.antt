@@ -1,19 +1,18 @@
 -- What a cut leaves of a file of records.
 -- Assumes nothing.
-use Rattle.std.proofs.Common.{◌≡◌, ℕ, ◌+◌, ◌-◌, ◌<◌, ◌≤◌, Bool, true, false, cond, eqb, leb, List, [], ◌∷◌, ◌++◌, length, take, drop, Some, Option, sym, refl, ap, ◌∙◌, ⊎_elim, arith}
+use Rattle.std.proofs.Common.{◌≡◌, ℕ, ◌+◌, ◌-◌, ◌<◌, ◌≤◌, Bool, true, false, cond, eqb, leb, List, [], ◌∷◌, ◌++◌, length, take, drop, Some, Option, sym, refl, ap, ◌∙◌, ⊎_elim, arith, Ok, None}
 use lib.Seq.{take-nil, take-append-add}
 use Rattle.std.specs.Option.{option_map}
 use Rattle.std.proofs.lemmas.List.{append_assoc, append-nil, take_at, drop_at, take_all, take-append-le}
 use Rattle.std.proofs.lemmas.Bool.Decides.{eqb_tells, leb_tells}
-use Rattle.files.specs.declared.front.Front.{Front}
-use Rattle.files.specs.declared.front.Front.TheVariants.{Whole, Short}
+use Rattle.files.specs.Fronts.{Front}
 use Rattle.files.specs.Recovery.{records, together, wholes, CutLast, CutAnywhere, CutsBack}
 use Rattle.files.proofs.Scans.{Within, records_whole, records_short, records_none}
 
 abbrev Chunks : Type 0
 Chunks = Option (List (List ℕ))
 
-module _ (front : List ℕ → Front) (known : List ℕ → Type 0) (within : Within front) (stays : (bs more : List ℕ) → known bs → front (bs ++ more) ≡ Whole (length bs)) (short : (bs : List ℕ) (n : ℕ) → known bs → n < length bs → front (take n bs) ≡ Short) where
+module _ (front : List ℕ → Front) (known : List ℕ → Type 0) (within : Within front) (stays : (bs more : List ℕ) → known bs → front (bs ++ more) ≡ Ok (Some (length bs))) (short : (bs : List ℕ) (n : ℕ) → known bs → n < length bs → front (take n bs) ≡ Ok None) where
   -- behind a record the recovery goes on
   pub records_more : (r bs : List ℕ) → known r → records front (r ++ bs) ≡ option_map (λ (rs : List (List ℕ)). r ∷ rs) (records front bs)
   records_more r bs g =

@@ -1,7 +1,7 @@
 -- What is recovered of a file of records after a step and any fall.
 -- Assumes nothing.
 use Rattle.std.specs.Prelude.{◌≡◌, ℕ, ◌<◌, ◌⊎◌, List, [], ◌++◌, length, take, drop, Some, Result, OnOk}
-use Rattle.files.specs.declared.front.Front.{Front}
+use Rattle.files.specs.Fronts.{Front}
 use Rattle.files.specs.Holdings.{Held, file, ended, cut_to}
 use Rattle.files.specs.Recovery.{records, together, whole_part, AllKnown, wholes}
 

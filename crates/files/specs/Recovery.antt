@@ -1,16 +1,15 @@
 -- The records that a file is recovered to, by how bytes begin.
 -- Assumes nothing.
-use Rattle.std.specs.Prelude.{◌≡◌, ℕ, zero, suc, ◌-◌, ◌≤◌, cond, List, [], ◌∷◌, ◌++◌, length, take, drop, Some, None, Option, ◌==◌, nat_le}
+use Rattle.std.specs.Prelude.{◌≡◌, ℕ, zero, suc, ◌-◌, ◌≤◌, cond, List, [], ◌∷◌, ◌++◌, length, take, drop, Ok, Err, Some, None, Option, ◌==◌, nat_le}
 use Rattle.std.specs.Option.{option_map}
 use Rattle.std.specs.List.{flat_map}
-use Rattle.files.specs.declared.front.Front.{Front}
-use Rattle.files.specs.declared.front.Front.TheVariants.{Whole, Short, Wrong}
+use Rattle.files.specs.Fronts.{Front}
 
 -- goes on behind a whole record, stops at a short one, refuses a wrong one
 abbrev pub front_case : {X : Type 0} → Front → (ℕ → Option (List X)) → Option (List X)
-front_case (Whole n) rest = rest n
-front_case Short rest = Some []
-front_case Wrong rest = None
+front_case (Ok (Some n)) rest = rest n
+front_case (Ok None) rest = Some []
+front_case (Err e) rest = None
 
 -- the whole records at the front of the bytes, at most so many; None where one is wrong
 unfoldable pub scan : (List ℕ → Front) → ℕ → List ℕ → Option (List (List ℕ))
