@@ -1,6 +1,6 @@
 -- Every record is seen as one whole record.
 -- Assumes nothing.
-use Rattle.std.proofs.Common.{◌≡◌, ℕ, length, refl, arith, Ok, Some, None}
+use Rattle.std.proofs.Common.{◌≡◌, ℕ, length, refl, arith, Ok, Some}
 use Rattle.std.proofs.lemmas.Bool.{cond-true}
 use Rattle.forms.specs.Meaning.{Uttered, first, second, third}
 use Rattle.files.specs.Records.{boat_front, harbour_front}

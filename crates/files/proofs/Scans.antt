@@ -1,6 +1,6 @@
 -- Laws of what a file is recovered to.
 -- Assumes nothing.
-use Rattle.std.proofs.Common.{◌≡◌, ℕ, zero, suc, ◌+◌, ◌-◌, ◌<◌, ◌≤◌, List, [], ◌∷◌, ◌++◌, length, take, drop, Ok, Err, Some, None, Option, sym, refl, ap, ◌∙◌, not-suc-le-zero, arith, length-drop, take-add}
+use Rattle.std.proofs.Common.{◌≡◌, ℕ, zero, suc, ◌-◌, ◌<◌, ◌≤◌, List, [], ◌∷◌, ◌++◌, length, take, drop, Ok, Err, Some, None, Option, sym, refl, ap, ◌∙◌, not-suc-le-zero, arith, length-drop}
 use Rattle.std.specs.Option.{option_map}
 use Rattle.std.proofs.lemmas.List.{append_assoc, append-nil, take_at, length-append, take-append-drop}
 use Rattle.files.specs.declared.front.Wrong.{Wrong}
