@@ -45,8 +45,6 @@ pub fn whole_part<'a, F: Format>(format: &F, file: &'a [u8]) -> Result<&'a [u8],
 }
 
 // What a cut leaves of a file of records.
-pub fn cut_back_stands<F: Format>(format: &F)
-    ensures { CutsBack (F.Format.begins format.now) (F.Format.known format.now) }
-{
-    let _ = format;
-}
+pub fn cut_back_stands<F: Format>()
+    ensures { (format : F) → CutsBack (F.Format.begins format) (F.Format.known format) }
+{}

@@ -19,13 +19,13 @@ const NAME_LENGTH_AT: usize = 18;
 const LONGEST_NAME: u8 = 40;
 
 // A boat's file, as a program reads it.
-#[derive(Clone, Copy)]
+#[derive(Clone, Copy, PartialEq, Eq, Debug)]
 pub struct BoatFormat {
     pub program: Program,
 }
 
 // The harbour's file.
-#[derive(Clone, Copy)]
+#[derive(Clone, Copy, PartialEq, Eq, Debug)]
 pub struct HarbourFormat;
 
 // A record of `size` bytes, where they are all there.
