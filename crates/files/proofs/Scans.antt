@@ -76,24 +76,17 @@ module _ (front : List ℕ → Front) (within : Within front) where
   abbrev pub Passed : List ℕ → List ℕ → Type 0
   Passed bs rest = (past : List ℕ) × (bs ≡ past ++ rest) × (option_map (λ (p : List ℕ). past ++ p) (whole_part front rest) ≡ whole_part front bs)
 
-  pub passed_none : (bs : List ℕ) → Passed bs bs
-  passed_none bs = ([], refl, same (whole_part front bs))
-    where
-      same : (o : Option (List ℕ)) → option_map (λ (p : List ℕ). p) o ≡ o
-      same None = refl
-      same (Some x) = refl
-
-  pub passed_more : (bs rest : List ℕ) (n : ℕ) → front rest ≡ Ok (Some n) → Passed bs rest → Passed bs (drop n rest)
+  pub passed_more : (bs rest : List ℕ) (n : ℕ) → Ok (Some n) ≡ front rest → Passed bs rest → Passed bs (drop n rest)
   passed_more bs rest n e h =
-      (h.0 ++ take n rest, h.1 ∙ ap (λ (v : List ℕ). h.0 ++ v) (sym (take-append-drop n rest)) ∙ sym (append_assoc h.0 (take n rest) (drop n rest)), sym (both (whole_part front (drop n rest))) ∙ ap (λ (o : Option (List ℕ)). option_map (λ (p : List ℕ). h.0 ++ p) o) (sym (part_whole rest n e)) ∙ h.2)
+      (h.0 ++ take n rest, h.1 ∙ ap (λ (v : List ℕ). h.0 ++ v) (sym (take-append-drop n rest)) ∙ sym (append_assoc h.0 (take n rest) (drop n rest)), sym (both (whole_part front (drop n rest))) ∙ ap (λ (o : Option (List ℕ)). option_map (λ (p : List ℕ). h.0 ++ p) o) (sym (part_whole rest n (sym e))) ∙ h.2)
     where
       both : (o : Option (List ℕ)) → option_map (λ (p : List ℕ). h.0 ++ p) (option_map (λ (p : List ℕ). take n rest ++ p) o) ≡ option_map (λ (p : List ℕ). (h.0 ++ take n rest) ++ p) o
       both None = refl
       both (Some x) = ap Some (sym (append_assoc h.0 (take n rest) x))
 
-  pub passed_wrong : (bs rest : List ℕ) (x : Wrong) → 0 < length rest → front rest ≡ Err x → Passed bs rest → whole_part front bs ≡ None
+  pub passed_wrong : (bs rest : List ℕ) (x : Wrong) → 0 < length rest → Err x ≡ front rest → Passed bs rest → whole_part front bs ≡ None
   passed_wrong bs rest x l e h =
-      sym h.2 ∙ ap (λ (o : Chunks). option_map (λ (p : List ℕ). h.0 ++ p) (option_map (λ (rs : List (List ℕ)). together rs) o)) (records_wrong rest x l e)
+      sym h.2 ∙ ap (λ (o : Chunks). option_map (λ (p : List ℕ). h.0 ++ p) (option_map (λ (rs : List (List ℕ)). together rs) o)) (records_wrong rest x l (sym e))
 
   -- it ends there
   passed_end : (bs rest : List ℕ) → whole_part front rest ≡ Some [] → Passed bs rest → WholeTo bs (length bs - length rest)
@@ -103,8 +96,8 @@ module _ (front : List ℕ → Front) (within : Within front) where
       let k : length (take (length bs - length rest) bs) ≡ length bs - length rest = ap length t ∙ sym l in
       (sym h.2 ∙ ap (λ (o : Option (List ℕ)). option_map (λ (p : List ℕ). h.0 ++ p) o) e ∙ ap Some (append-nil h.0 ∙ sym t), rw k (take-append-drop _ bs))
 
-  pub passed_short : (bs rest : List ℕ) → front rest ≡ Ok None → Passed bs rest → WholeTo bs (length bs - length rest)
-  passed_short bs rest e h = passed_end bs rest (part_short rest e) h
+  pub passed_short : (bs rest : List ℕ) → Ok None ≡ front rest → Passed bs rest → WholeTo bs (length bs - length rest)
+  passed_short bs rest e h = passed_end bs rest (part_short rest (sym e)) h
 
   pub passed_all : (bs rest : List ℕ) → length rest ≡ 0 → Passed bs rest → WholeTo bs (length bs - length rest)
   passed_all bs [] l h = passed_end bs [] (ap (option_map (λ (rs : List (List ℕ)). together rs)) records_none) h

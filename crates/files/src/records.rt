@@ -48,7 +48,7 @@ fn named(bytes: &[u8]) -> Result<Option<usize>, Wrong>
     Ok(sized(NAME_LENGTH_AT + 1 + usize::from(length), bytes))
 }
 
-// The record of a word: kind, from, number, and then the word, whose form is its first byte.
+// The record of a word: kind, from, number, and then the word, whose form is its first byte. A match over the form's number, as the project's rules want it.
 fn word(program: Program, bytes: &[u8]) -> Result<Option<usize>, Wrong>
     ensures { result ≡ word_front program.0 bytes.now }
 {

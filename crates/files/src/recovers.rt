@@ -1,4 +1,4 @@
-// What is recovered of a step and of an opening after any fall.
+// What is recovered of a step and of an opening after any fall. A format is named by its type alone: what is promised is promised for every format of that type.
 ghost use Rattle.std.specs.Prelude.{◌≡◌};
 ghost use Rattle.files.specs.Plans.{Performs, step_plan, opening_plan};
 ghost use Rattle.files.specs.Disks.{held, DiskDid};

@@ -1,10 +1,6 @@
 use Rattle.files.specs.Disks.{held}
-use Rattle.files.proofs.Comebacks.{opens_again, restores, opens_torn}
+use Rattle.files.proofs.Comebacks.{opens_again, opens_torn}
 use Rattle.files.proofs.steps.Opening.open_records.Goals as goal
-
-pub returns-clause-ok : goal.returns-clause-ok
-returns-clause-ok g c f =
-    restores (g.F.Format.begins f) c.open_disk.result (held c.args.disk.now) c.args.self.now.whole_len _ (held c.open_disk.new.disk) c.open_disk.ensures.ok
 
 pub returns-clause-torn : goal.returns-clause-torn
 returns-clause-torn g c f =
