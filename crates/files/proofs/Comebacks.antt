@@ -1,26 +1,29 @@
 -- What is recovered of a file of records after a step and any fall.
 -- Assumes nothing.
-use Rattle.std.proofs.Common.{◌≡◌, ℕ, zero, suc, ◌+◌, ◌-◌, ◌<◌, ◌≤◌, Bool, true, false, cond, leb, List, [], ◌∷◌, ◌++◌, length, take, drop, IfOk, Some, None, Ok, Err, Option, Result, sym, refl, ap, ◌∙◌, subst, inl, inr, ⊎_elim, suc-le-suc, zero-le, arith}
+use Rattle.std.proofs.Common.{◌≡◌, ℕ, suc, ◌+◌, ◌-◌, ◌<◌, ◌≤◌, Bool, true, false, cond, leb, List, [], ◌∷◌, ◌++◌, length, take, IfOk, Some, None, Ok, Err, Option, Result, sym, refl, ap, ◌∙◌, subst, inl, inr, ⊎_elim, arith}
+use Rattle.std.specs.Prelude.{All}
 use Rattle.std.specs.Option.{option_map}
-use Rattle.std.proofs.lemmas.List.{append_assoc, append-nil, take_at, take_all}
+use Rattle.std.proofs.lemmas.List.{append_assoc, append-nil, take_at}
+use Rattle.std.proofs.lemmas.List.Elements.{All-nil, All-head, All-tail, All-same, All-append, All-take}
+use Rattle.std.proofs.lemmas.Grind.{flat_map-append}
+use Rattle.std.proofs.lemmas.Iterator.Adapters.{option_map_id}
 use Rattle.std.proofs.lemmas.Bool.{cond-true, cond-false, le-leb}
 use Rattle.std.proofs.lemmas.Bool.Decides.{leb_tells}
-use lib.Seq.{take-nil, take-append-add}
-use Rattle.files.specs.declared.front.Front.{Front}
-use Rattle.files.specs.declared.front.Front.TheVariants.{Whole, Short}
+use Rattle.std.proofs.Math.Seq.{take-nil, take-append-add}
+use Rattle.files.specs.Fronts.{Front}
 use Rattle.files.specs.Holdings.{Held, file, ended, cut_to}
-use Rattle.files.specs.Recovery.{records, together, whole_part, AllKnown, wholes}
-use Rattle.files.specs.Falls.{Finished, Settled, Fallen, Stepped, Opened}
-use Rattle.files.specs.Comebacks.{Recovered, ComesBack, OpensAgain, Extends, Restores, Torn, FallsTorn, StepsTorn, OpensTorn}
+use Rattle.files.specs.Recovery.{records, together, whole_part, wholes}
+use Rattle.files.specs.Falls.{Finished, Fallen, Stepped, Opened}
+use Rattle.files.specs.Comebacks.{Recovered, ComesBack, OpensAgain, Extends, Torn, FallsTorn, StepsTorn, OpensTorn}
+use Rattle.files.proofs.Views.{part_of, ended_is_cut}
 use Rattle.files.proofs.Scans.{Within, records_none}
 use Rattle.files.proofs.CutsBack.{records_more, cut_anywhere}
 
 abbrev Chunks : Type 0
 Chunks = Option (List (List ℕ))
 
-pub together_append : (rs qs : List (List ℕ)) → together (rs ++ qs) ≡ together rs ++ together qs
-together_append [] qs = refl
-together_append (r ∷ rs) qs = ap (λ (v : List ℕ). r ++ v) (together_append rs qs) ∙ sym (append_assoc r (together rs) (together qs))
+together_append : (rs qs : List (List ℕ)) → together (rs ++ qs) ≡ together rs ++ together qs
+together_append rs qs = flat_map-append (λ r. r) rs qs
 
 -- the whole ones are a first part
 wholes_part : (n : ℕ) (rs : List (List ℕ)) → (i : ℕ) × (wholes n rs ≡ take i rs)
@@ -30,13 +33,6 @@ wholes_part n (r ∷ rs) = go (leb (length r) n) (wholes_part (n - length r) rs)
     go : (b : Bool) → ((i : ℕ) × (wholes (n - length r) rs ≡ take i rs)) → (i : ℕ) × (cond b (r ∷ wholes (n - length r) rs) [] ≡ take i (r ∷ rs))
     go true p = (suc p.0, ap (λ (v : List (List ℕ)). r ∷ v) p.1)
     go false p = (0, refl)
-
--- a first part of a first part
-part_min : (i m : ℕ) (xs : List ℕ) → (j : ℕ) × (j ≤ m) × (take i (take m xs) ≡ take j xs)
-part_min zero m xs = (0, zero-le, refl)
-part_min (suc i) zero xs = (0, zero-le, refl)
-part_min (suc i) (suc m) [] = (0, zero-le, refl)
-part_min (suc i) (suc m) (x ∷ xs) = let p = part_min i m xs in (suc p.0, suc-le-suc p.1, ap (λ (v : List ℕ). x ∷ v) p.2)
 
 -- with fewer bytes there is a first part of what is whole
 wholes_fewer : (j m : ℕ) (rs : List (List ℕ)) → j ≤ m → (i : ℕ) × (wholes j rs ≡ take i (wholes m rs))
@@ -63,18 +59,11 @@ pub extends : {E : Type 0} (r : Result (Unit {0}) E) (h : Held) (b : List ℕ) (
 extends (Ok x) h b ms k f rs bs l q e = let a = f.filed l in (a.0 ∙ (λ i. e i ++ q i) ∙ sym (together_append rs bs), a.1)
 extends (Err x) h b ms k f rs bs l q e = tt
 
-pub restores : {E : Type 0} (front : List ℕ → Front) (r : Result (Unit {0}) E) (h : Held) (n : ℕ) (ms : List (List ℕ)) (k : Held) → IfOk r (λ _. Settled h n ms k) → Restores front r h n k
-restores front (Ok x) h n ms k f rs w e p q l =
-    let y : whole_part front (file h) ≡ Some (together rs) = ap (λ (o : Chunks). option_map (λ (v : List (List ℕ)). together v) o) e in
-    let z : w ≡ together rs = cc in
-    (f.filed.0 ∙ ap (take n) (sym q) ∙ take_at w (drop (length w) (file h)) n (sym l) ∙ z, f.filed.1)
-restores front (Err x) h n ms k f rs w e p q l = tt
-
 -- a fall leaves a torn file torn
 torn_cut : (known : List ℕ → Type 0) (rs : List (List ℕ)) (h : Held) (left : ℕ) → Torn known rs h → Torn known rs (cut_to left h)
 torn_cut known rs h left t =
     let b = t.behind in
-    let p = part_min left b.2.0 (together b.0) in
+    let p = part_of left b.2.0 (together b.0) in
     record { all = t.all; safe = t.safe; behind = (b.0, b.1, (p.0, ap (take left) b.2.1 ∙ p.2)) }
 
 torn_end : (known : List ℕ → Type 0) (rs : List (List ℕ)) (h : Held) → Torn known rs h → Torn known rs (ended h)
@@ -84,25 +73,17 @@ pub falls_torn : (known : List ℕ → Type 0) → FallsTorn known
 falls_torn known rs h t = (torn_end known rs h t, λ left. torn_cut known rs h left t)
 
 -- all of it is whole
-torn_whole : (known : List ℕ → Type 0) (rs : List (List ℕ)) (h : Held) → AllKnown known rs → h.synced ≡ together rs → h.pending ≡ [] → Torn known rs h
-torn_whole known rs h a s p = record { all = a; safe = s; behind = ([], tt, (0, p)) }
+torn_whole : (known : List ℕ → Type 0) (rs : List (List ℕ)) (h : Held) → All known rs → h.synced ≡ together rs → h.pending ≡ [] → Torn known rs h
+torn_whole known rs h a s p = record { all = a; safe = s; behind = ([], All-nil known, (0, p)) }
 
-module _ (front : List ℕ → Front) (known : List ℕ → Type 0) (within : Within front) (stays : (bs more : List ℕ) → known bs → front (bs ++ more) ≡ Whole (length bs)) (short : (bs : List ℕ) (n : ℕ) → known bs → n < length bs → front (take n bs) ≡ Short) where
-  known_append : (rs qs : List (List ℕ)) → AllKnown known rs → AllKnown known qs → AllKnown known (rs ++ qs)
-  known_append [] qs a b = b
-  known_append (x ∷ rs) qs a b = (a.0, known_append rs qs a.1 b)
-
+module _ (front : List ℕ → Front) (known : List ℕ → Type 0) (within : Within front) (stays : (bs more : List ℕ) → known bs → front (bs ++ more) ≡ Ok (Some (length bs))) (short : (bs : List ℕ) (n : ℕ) → known bs → n < length bs → front (take n bs) ≡ Ok None) where
   -- behind records the recovery goes on
-  records_behind : (rs : List (List ℕ)) (bs : List ℕ) → AllKnown known rs → records front (together rs ++ bs) ≡ option_map (λ (qs : List (List ℕ)). rs ++ qs) (records front bs)
-  records_behind [] bs a = same (records front bs)
-    where
-      same : (o : Chunks) → o ≡ option_map (λ (qs : List (List ℕ)). qs) o
-      same None = refl
-      same (Some x) = refl
+  records_behind : (rs : List (List ℕ)) (bs : List ℕ) → All known rs → records front (together rs ++ bs) ≡ option_map (λ (qs : List (List ℕ)). rs ++ qs) (records front bs)
+  records_behind [] bs a = sym (option_map_id (records front bs))
   records_behind (r ∷ rs) bs a =
       ap (records front) (append_assoc r (together rs) bs)
-      ∙ records_more front known within stays short r (together rs ++ bs) a.0
-      ∙ ap (λ (o : Chunks). option_map (λ (qs : List (List ℕ)). r ∷ qs) o) (records_behind rs bs a.1)
+      ∙ records_more front known within stays short r (together rs ++ bs) (All-head known r rs a)
+      ∙ ap (λ (o : Chunks). option_map (λ (qs : List (List ℕ)). r ∷ qs) o) (records_behind rs bs (All-tail known r rs a))
       ∙ both (records front bs)
     where
       both : (o : Chunks) → option_map (λ (qs : List (List ℕ)). r ∷ qs) (option_map (λ (qs : List (List ℕ)). rs ++ qs) o) ≡ option_map (λ (qs : List (List ℕ)). r ∷ (rs ++ qs)) o
@@ -110,22 +91,22 @@ module _ (front : List ℕ → Front) (known : List ℕ → Type 0) (within : Wi
       both (Some x) = refl
 
   -- records, and records cut anywhere behind them
-  pub records_cut : (rs qs : List (List ℕ)) (n : ℕ) → AllKnown known rs → AllKnown known qs → records front (together rs ++ take n (together qs)) ≡ Some (rs ++ wholes n qs)
+  pub records_cut : (rs qs : List (List ℕ)) (n : ℕ) → All known rs → All known qs → records front (together rs ++ take n (together qs)) ≡ Some (rs ++ wholes n qs)
   records_cut rs qs n a b =
       records_behind rs (take n (together qs)) a ∙ ap (λ (o : Chunks). option_map (λ (x : List (List ℕ)). rs ++ x) o) (cut_anywhere front known within stays short qs b n)
 
-  pub records_all : (rs qs : List (List ℕ)) → AllKnown known rs → AllKnown known qs → records front (together rs ++ together qs) ≡ Some (rs ++ qs)
+  pub records_all : (rs qs : List (List ℕ)) → All known rs → All known qs → records front (together rs ++ together qs) ≡ Some (rs ++ qs)
   records_all rs qs a b =
       records_behind rs (together qs) a
       ∙ ap (λ (o : Chunks). option_map (λ (x : List (List ℕ)). rs ++ x) o)
       (ap (records front) (sym (append-nil (together qs))) ∙ records_behind qs [] b ∙ ap (λ (o : Chunks). option_map (λ (x : List (List ℕ)). qs ++ x) o) (records_none front within) ∙ ap Some (append-nil qs))
 
-  recovered : (rs ps bs : List (List ℕ)) (b : List ℕ) (h k : Held) (x : List ℕ) → AllKnown known rs → AllKnown known ps → AllKnown known bs → 0 < length b → b ≡ together bs → h.synced ≡ together rs → h.pending ≡ together ps → Fallen h b k x → Recovered front rs (ps ++ bs) h k x
+  recovered : (rs ps bs : List (List ℕ)) (b : List ℕ) (h k : Held) (x : List ℕ) → All known rs → All known ps → All known bs → 0 < length b → b ≡ together bs → h.synced ≡ together rs → h.pending ≡ together ps → Fallen h b k x → Recovered front rs (ps ++ bs) h k x
   recovered rs ps bs b h k x a c g l q s p f =
       record { part = (w.0, ap (records front) is ∙ records_cut rs (ps ++ bs) f.part.0 a d ∙ ap (λ (v : List (List ℕ)). Some (rs ++ v)) w.1); told = ⊎_elim (λ e. inl e) (λ e. inr (ap (records front) (e ∙ all) ∙ records_all rs (ps ++ bs) a d)) (f.whole l) }
     where
-      d : AllKnown known (ps ++ bs)
-      d = known_append ps bs c g
+      d : All known (ps ++ bs)
+      d = All-append known ps bs c g
 
       rest : h.pending ++ b ≡ together (ps ++ bs)
       rest = (λ i. p i ++ q i) ∙ sym (together_append ps bs)
@@ -143,15 +124,10 @@ module _ (front : List ℕ → Front) (known : List ℕ → Type 0) (within : Wi
   comes_back h b ms k f rs ps bs a c g l q s p =
       (recovered rs ps bs b h k _ a c g l q s p f.killed, λ left. recovered rs ps bs b h k _ a c g l q s p (f.cut left))
 
-  known_wholes : (m : ℕ) (rs : List (List ℕ)) → AllKnown known rs → AllKnown known (wholes m rs)
-  known_wholes m [] a = tt
-  known_wholes m (r ∷ rs) a = go (leb (length r) m) (known_wholes (m - length r) rs a.1)
-    where
-      go : (b : Bool) → AllKnown known (wholes (m - length r) rs) → AllKnown known (cond b (r ∷ wholes (m - length r) rs) [])
-      go true p = (a.0, p)
-      go false p = tt
+  known_wholes : (m : ℕ) (rs : List (List ℕ)) → All known rs → All known (wholes m rs)
+  known_wholes m rs a = let p = wholes_part m rs in All-same known _ _ p.1 (All-take known p.0 rs a)
 
-  module _ (rs ps : List (List ℕ)) (m n : ℕ) (w : List ℕ) (h k : Held) (a : AllKnown known rs) (c : AllKnown known ps) (s : h.synced ≡ together rs) (p : h.pending ≡ take m (together ps)) (e : whole_part front (file h) ≡ Some w) (l : n ≡ length w) where
+  module _ (rs ps : List (List ℕ)) (m n : ℕ) (w : List ℕ) (h k : Held) (a : All known rs) (c : All known ps) (s : h.synced ≡ together rs) (p : h.pending ≡ take m (together ps)) (e : whole_part front (file h) ≡ Some w) (l : n ≡ length w) where
     before : records front (file h) ≡ Some (rs ++ wholes m ps)
     before = ap (records front) (λ i. s i ++ p i) ∙ records_cut rs ps m a c
 
@@ -170,7 +146,7 @@ module _ (front : List ℕ → Front) (known : List ℕ → Type 0) (within : Wi
 
     opened_part : (x : List ℕ) (i : ℕ) → x ≡ h.synced ++ take i h.pending → (j : ℕ) × (records front x ≡ Some (rs ++ take j (wholes m ps)))
     opened_part x i q =
-        let r = part_min i m (together ps) in
+        let r = part_of i m (together ps) in
         let f = wholes_fewer r.0 m ps r.1 in
         (f.0, ap (records front) (q ∙ (λ u. s u ++ take i (p u)) ∙ ap (λ (v : List ℕ). together rs ++ v) r.2) ∙ records_cut rs ps r.0 a c ∙ ap (λ (v : List (List ℕ)). Some (rs ++ v)) f.1)
 
@@ -184,8 +160,7 @@ module _ (front : List ℕ → Front) (known : List ℕ → Type 0) (within : Wi
 
     opened_end : (ms : List (List ℕ)) → Opened h n ms k → Recovered front rs (wholes m ps) h k (file (ended k))
     opened_end ms f =
-        let all : length k.pending ≤ length k.pending = omega arith in
-        subst (λ (x : List ℕ). Recovered front rs (wholes m ps) h k (k.synced ++ x)) (take_all (length k.pending) k.pending all) (opened_at ms f (length k.pending))
+        subst (λ (e : Held). Recovered front rs (wholes m ps) h k (file e)) (ended_is_cut k) (opened_at ms f (length k.pending))
 
   pub opens_again : (h : Held) (n : ℕ) (ms : List (List ℕ)) (k : Held) → Opened h n ms k → OpensAgain front known h n k
   opens_again h n ms k f rs ps m w a c s p e l =
@@ -195,11 +170,11 @@ module _ (front : List ℕ → Front) (known : List ℕ → Type 0) (within : Wi
   steps_torn h b ms k f rs ps bs a c g q s p =
       ⊎_elim
       (λ e. inl (record { all = a; safe = e.0 ∙ s; behind = (ps ++ bs, d, (e.1.0, e.1.1 ∙ ap (take e.1.0) rest)) }))
-      (λ e. inr (torn_whole known (rs ++ (ps ++ bs)) k (known_append rs (ps ++ bs) a d) (e.0 ∙ append_assoc h.synced h.pending b ∙ (λ i. s i ++ rest i) ∙ sym (together_append rs (ps ++ bs))) e.1))
+      (λ e. inr (torn_whole known (rs ++ (ps ++ bs)) k (All-append known rs (ps ++ bs) a d) (e.0 ∙ append_assoc h.synced h.pending b ∙ (λ i. s i ++ rest i) ∙ sym (together_append rs (ps ++ bs))) e.1))
       f.parts
     where
-      d : AllKnown known (ps ++ bs)
-      d = known_append ps bs c g
+      d : All known (ps ++ bs)
+      d = All-append known ps bs c g
 
       rest : h.pending ++ b ≡ together (ps ++ bs)
       rest = (λ i. p i ++ q i) ∙ sym (together_append ps bs)
@@ -207,8 +182,8 @@ module _ (front : List ℕ → Front) (known : List ℕ → Type 0) (within : Wi
   pub opens_torn : (h : Held) (n : ℕ) (ms : List (List ℕ)) (k : Held) → Opened h n ms k → OpensTorn front known h n k
   opens_torn h n ms k f rs w t e l =
       ⊎_elim
-      (λ q. let r = part_min q.1.0 m (together ps) in inl (record { all = a; safe = q.0 ∙ s; behind = (ps, c, (r.0, q.1.1 ∙ ap (take q.1.0) p ∙ r.2)) }))
-      (λ q. inr (wholes m ps, before rs ps m n w h k a c s p e l, torn_whole known (rs ++ wholes m ps) k (known_append rs (wholes m ps) a (known_wholes m ps c)) (q.0 ∙ cut_to_lem rs ps m n w h k a c s p e l ∙ sym (together_append rs (wholes m ps))) q.1))
+      (λ q. let r = part_of q.1.0 m (together ps) in inl (record { all = a; safe = q.0 ∙ s; behind = (ps, c, (r.0, q.1.1 ∙ ap (take q.1.0) p ∙ r.2)) }))
+      (λ q. inr (wholes m ps, before rs ps m n w h k a c s p e l, torn_whole known (rs ++ wholes m ps) k (All-append known rs (wholes m ps) a (known_wholes m ps c)) (q.0 ∙ cut_to_lem rs ps m n w h k a c s p e l ∙ sym (together_append rs (wholes m ps))) q.1))
       f.parts
     where
       ps : List (List ℕ)
@@ -217,10 +192,10 @@ module _ (front : List ℕ → Front) (known : List ℕ → Type 0) (within : Wi
       m : ℕ
       m = t.behind.2.0
 
-      a : AllKnown known rs
+      a : All known rs
       a = t.all
 
-      c : AllKnown known ps
+      c : All known ps
       c = t.behind.1
 
       s : h.synced ≡ together rs

@@ -1,8 +1,8 @@
 -- What a step and an opening leave, wherever they stop.
 -- Assumes nothing.
 use Rattle.std.proofs.Common.{◌≡◌, ℕ, zero, suc, ◌+◌, ◌-◌, ◌<◌, ◌≤◌, List, [], ◌∷◌, ◌++◌, map, length, take, IfOk, Ok, Err, vec_items, Result, Vec, sym, refl, ap, ◌∙◌, subst, inl, inr, ⊎_elim, suc-le-suc, zero-le, not-suc-le-zero, arith}
-use lib.Seq.{take-nil, take-append-add}
-use Rattle.std.proofs.lemmas.List.{append-nil, append_assoc, take_all}
+use Rattle.std.proofs.Math.Seq.{take-nil, take-length, take-append-add}
+use Rattle.std.proofs.lemmas.List.{append-nil, append_assoc}
 use Rattle.std.proofs.lemmas.Bool.{and_parts, leb-true, lt-ltb, cond-true}
 use Rattle.files.specs.declared.disk.Disk.{Disk}
 use Rattle.files.specs.Effects.{Effect, Append, Sync, Send, CutBack}
@@ -10,6 +10,7 @@ use Rattle.files.specs.Plans.{Done, Stopped, Performs, sends, stepping, opening}
 use Rattle.files.specs.Holdings.{Held, file, after, Did, ran, Ran, ended, cut_to}
 use Rattle.files.specs.Disks.{held, DiskDid}
 use Rattle.files.specs.Falls.{Finished, Settled, Fallen, Stepped, Opened}
+use Rattle.files.proofs.Views.{part_of, ended_is_cut}
 
 -- from the disk to what it holds
 lift_done : (es : List Effect) (s t : Disk) → Done DiskDid es s t → Done Did es (held s) (held t)
@@ -62,18 +63,9 @@ part_in zero xs ys = (0, refl)
 part_in (suc n) [] ys = (0, refl)
 part_in (suc n) (x ∷ xs) ys = let p = part_in n xs ys in (suc p.0, ap (λ (v : List ℕ). x ∷ v) p.1)
 
--- a first part of a first part
-part_of : (n j : ℕ) (xs : List ℕ) → (m : ℕ) × (take n (take j xs) ≡ take m xs)
-part_of zero j xs = (0, refl)
-part_of (suc n) zero xs = (0, refl)
-part_of (suc n) (suc j) [] = (0, refl)
-part_of (suc n) (suc j) (x ∷ xs) = let p = part_of n j xs in (suc p.0, ap (λ (v : List ℕ). x ∷ v) p.1)
-
 -- the end of the program is a cut that takes nothing
 from_cut : (h k : Held) (b : List ℕ) → ((left : ℕ) → Fallen h b k (file (cut_to left k))) → Fallen h b k (file (ended k))
-from_cut h k b f =
-    let l : length k.pending ≤ length k.pending = omega arith in
-    subst (λ (p : List ℕ). Fallen h b k (k.synced ++ p)) (take_all (length k.pending) k.pending l) (f (length k.pending))
+from_cut h k b f = subst (λ (e : Held). Fallen h b k (file e)) (ended_is_cut k) (f (length k.pending))
 
 module _ (h k : Held) (b : List ℕ) (ms : List (List ℕ)) where
   -- the file stayed: nothing was sent, or there is no record
@@ -82,10 +74,7 @@ module _ (h k : Held) (b : List ℕ) (ms : List (List ℕ)) where
       record { safe = ([], r.0 ∙ sym (append-nil h.synced)); grown = (0, (λ i. r.0 i ++ r.1 i) ∙ sym (append-nil (file h))); parts = inl (r.0, (kept_part.0, r.1 ∙ kept_part.1)); told = r.2; backed = λ l. inl (q l); still = λ _. (r.0, r.1); killed = from_cut h k b cut; cut = cut }
     where
       kept_part : (n : ℕ) × (h.pending ≡ take n (h.pending ++ b))
-      kept_part =
-          let l : length h.pending ≤ length h.pending = omega arith in
-          let p = part_in (length h.pending) h.pending b in
-          (p.0, sym (take_all (length h.pending) h.pending l) ∙ p.1)
+      kept_part = let p = part_in (length h.pending) h.pending b in (p.0, sym (take-length h.pending) ∙ p.1)
 
       cut : (left : ℕ) → Fallen h b k (file (cut_to left k))
       cut left =
@@ -95,7 +84,7 @@ module _ (h k : Held) (b : List ℕ) (ms : List (List ℕ)) where
   -- the record was appended and not synced
   appended : (b ≡ [] → ⊥) → k ≡ after (Append b) h → Stepped h b ms k
   appended ne e =
-      record { safe = ([], s ∙ sym (append-nil h.synced)); grown = (length b, (λ i. s i ++ p i) ∙ sym (append_assoc h.synced h.pending b) ∙ ap (λ (v : List ℕ). file h ++ v) (sym (take_all (length b) b (omega arith)))); parts = inl (s, (length (h.pending ++ b), p ∙ sym (take_all (length (h.pending ++ b)) (h.pending ++ b) (omega arith)))); told = (0, m ∙ sym (append-nil h.sent)); backed = λ _. inl m; still = λ z. absurd (ne z); killed = from_cut h k b cut; cut = cut }
+      record { safe = ([], s ∙ sym (append-nil h.synced)); grown = (length b, (λ i. s i ++ p i) ∙ sym (append_assoc h.synced h.pending b) ∙ ap (λ (v : List ℕ). file h ++ v) (sym (take-length b))); parts = inl (s, (length (h.pending ++ b), p ∙ sym (take-length (h.pending ++ b)))); told = (0, m ∙ sym (append-nil h.sent)); backed = λ _. inl m; still = λ z. absurd (ne z); killed = from_cut h k b cut; cut = cut }
     where
       s : k.synced ≡ h.synced
       s = ap (λ (v : Held). v.synced) e
@@ -112,7 +101,7 @@ module _ (h k : Held) (b : List ℕ) (ms : List (List ℕ)) where
   -- the record was synced
   committed : (b ≡ [] → ⊥) → k.synced ≡ h.synced ++ (h.pending ++ b) → k.pending ≡ [] → ((n : ℕ) × (k.sent ≡ h.sent ++ take n ms)) → Stepped h b ms k
   committed ne s p t =
-      record { safe = (h.pending ++ b, s); grown = (length b, (λ i. s i ++ p i) ∙ append-nil _ ∙ sym (append_assoc h.synced h.pending b) ∙ ap (λ (v : List ℕ). file h ++ v) (sym (take_all (length b) b (omega arith)))); parts = inr (all, p); told = t; backed = λ _. inr (all, p); still = λ z. absurd (ne z); killed = from_cut h k b cut; cut = cut }
+      record { safe = (h.pending ++ b, s); grown = (length b, (λ i. s i ++ p i) ∙ append-nil _ ∙ sym (append_assoc h.synced h.pending b) ∙ ap (λ (v : List ℕ). file h ++ v) (sym (take-length b))); parts = inr (all, p); told = t; backed = λ _. inr (all, p); still = λ z. absurd (ne z); killed = from_cut h k b cut; cut = cut }
     where
       all : k.synced ≡ file h ++ b
       all = s ∙ sym (append_assoc h.synced h.pending b)
@@ -122,7 +111,7 @@ module _ (h k : Held) (b : List ℕ) (ms : List (List ℕ)) where
 
       cut : (left : ℕ) → Fallen h b k (file (cut_to left k))
       cut left =
-          record { part = (length (h.pending ++ b), is left ∙ s ∙ ap (λ (v : List ℕ). h.synced ++ v) (sym (take_all (length (h.pending ++ b)) (h.pending ++ b) (omega arith)))); whole = λ _. inr (is left ∙ all) }
+          record { part = (length (h.pending ++ b), is left ∙ s ∙ ap (λ (v : List ℕ). h.synced ++ v) (sym (take-length (h.pending ++ b)))); whole = λ _. inr (is left ∙ all) }
 
   -- behind the sync
   synced_said : (u v : Held) → (b ≡ [] → ⊥) → u ≡ after (Append b) h → v ≡ after Sync u → Said v ms k → Stepped h b ms k
@@ -175,14 +164,12 @@ module _ (h k : Held) (n : ℕ) (ms : List (List ℕ)) where
   Left x = (i : ℕ) × (x ≡ h.synced ++ take i h.pending)
 
   left_ended : ((left : ℕ) → Left (file (cut_to left k))) → Left (file (ended k))
-  left_ended f =
-      let l : length k.pending ≤ length k.pending = omega arith in
-      subst (λ (p : List ℕ). Left (k.synced ++ p)) (take_all (length k.pending) k.pending l) (f (length k.pending))
+  left_ended f = subst (λ (e : Held). Left (file e)) (ended_is_cut k) (f (length k.pending))
 
   -- nothing was done
   unopened : k ≡ h → Opened h n ms k
   unopened e =
-      record { safe = ([], s ∙ sym (append-nil h.synced)); kept = inl (ap file e); parts = inl (s, (length h.pending, ap (λ (v : Held). v.pending) e ∙ sym (take_all (length h.pending) h.pending (omega arith)))); told = (0, m ∙ sym (append-nil h.sent)); backed = inl m; killed = left_ended cut; cut = cut }
+      record { safe = ([], s ∙ sym (append-nil h.synced)); kept = inl (ap file e); parts = inl (s, (length h.pending, ap (λ (v : Held). v.pending) e ∙ sym (take-length h.pending))); told = (0, m ∙ sym (append-nil h.sent)); backed = inl m; killed = left_ended cut; cut = cut }
     where
       s : k.synced ≡ h.synced
       s = ap (λ (v : Held). v.synced) e
@@ -204,7 +191,7 @@ module _ (h k : Held) (n : ℕ) (ms : List (List ℕ)) where
       cut : (left : ℕ) → Left (file (cut_to left k))
       cut left =
           let p = part_of left (n - length h.synced) h.pending in
-          (p.0, ap (λ (v : Held). v.synced ++ take left v.pending) e ∙ ap (λ (v : List ℕ). h.synced ++ v) p.1)
+          (p.0, ap (λ (v : Held). v.synced ++ take left v.pending) e ∙ ap (λ (v : List ℕ). h.synced ++ v) p.2)
 
   -- it was synced
   opened_said : (u v : Held) → length h.synced ≤ n → u ≡ after (CutBack n) h → v ≡ after Sync u → Said v ms k → Opened h n ms k

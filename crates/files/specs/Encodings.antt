@@ -1,9 +1,8 @@
 -- The records of a boat's and of the harbour's file as bytes. All numbers have their high byte first.
 -- Assumes nothing.
-use Rattle.std.specs.Prelude.{◌≡◌, ℕ, ◌/◌, ◌%◌, ◌≤◌, true, List, [], ◌∷◌, ◌++◌, length}
+use Rattle.std.specs.Prelude.{◌≡◌, ℕ, ◌/◌, ◌%◌, ◌≤◌, true, List, [], ◌∷◌, ◌++◌, length, Ok, Some}
 use Rattle.levels.specs.Rules.{reads}
 use Rattle.forms.specs.Meaning.{Uttered, first, second, third, form_of}
-use Rattle.files.specs.declared.front.Front.TheVariants.{Whole}
 use Rattle.files.specs.Records.{boat_front, harbour_front}
 
 abbrev pub two : ℕ → List ℕ
@@ -52,5 +51,5 @@ Readable p (used n) = Unit {0}
 
 -- every record that there can be is seen as one whole record
 pub record AllSeen : Type 0 where
-  pub boats : (p : ℕ) (r : BoatRecord) → Readable p r → boat_front p (boat_bytes r) ≡ Whole (length (boat_bytes r))
-  pub harbours : (r : HarbourRecord) → harbour_front (harbour_bytes r) ≡ Whole (length (harbour_bytes r))
+  pub boats : (p : ℕ) (r : BoatRecord) → Readable p r → boat_front p (boat_bytes r) ≡ Ok (Some (length (boat_bytes r)))
+  pub harbours : (r : HarbourRecord) → harbour_front (harbour_bytes r) ≡ Ok (Some (length (harbour_bytes r)))

@@ -1,4 +1,6 @@
 pub mod Effects
+pub mod Fronts
+pub mod Kinds
 pub mod Plans
 pub mod Holdings
 pub mod Disks

@@ -1,6 +1,8 @@
 -- Effects done in order, all of them or up to the first that failed; and the plans of a step and of an opening.
 -- Assumes nothing.
 use Rattle.std.specs.Prelude.{◌≡◌, ℕ, Bool, true, false, cond, ◌⊎◌, List, [], ◌∷◌, map, length, vec_items, Result, Vec, MatchResult, nat_lt}
+use Rattle.files.specs.declared.steps.Step.{Step}
+use Rattle.files.specs.declared.steps.Opening.{Opening}
 use Rattle.files.specs.Effects.{Effect, Append, Sync, Send, CutBack}
 
 module _ {S : Type 0} (did : S → Effect → Bool → S → Type 0) where
@@ -31,3 +33,9 @@ stepping b ms = cond (nat_lt 0 (length b)) (Append b ∷ Sync ∷ sends ms) (sen
 -- the file is cut back and synced before any message is sent
 abbrev pub opening : {Z : Type 0} → ℕ → List (Vec ℕ Z) → List Effect
 opening n ms = CutBack n ∷ Sync ∷ sends ms
+
+abbrev pub step_plan : Step → List Effect
+step_plan s = stepping s.bytes.now s.messages.now
+
+abbrev pub opening_plan : Opening → List Effect
+opening_plan o = opening o.whole_len o.messages.now

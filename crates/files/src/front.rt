@@ -1,10 +1,16 @@
-// How bytes begin.
-#[derive(Clone, Copy, Debug)]
-pub enum Front {
-    // with a whole record, of so many bytes
-    Whole(usize),
-    // with a first part of a record that is not the whole of it, be it of no bytes
-    Short,
-    // with what no record begins with
-    Wrong,
+// What no record begins with.
+ghost use Rattle.std.specs.Prelude.{◌≡◌};
+ghost use Rattle.levels.specs.declared.refusals.Refusal.TheVariants.{Malformed};
+
+use levels::refusals::Refusal;
+
+#[derive(Clone, Copy, PartialEq, Eq, Debug)]
+pub struct Wrong;
+
+impl From<Wrong> for Refusal {
+    ghost from_gives = { λ _ r. r ≡ Malformed };
+
+    fn from(_e: Wrong) -> Refusal {
+        Refusal::Malformed
+    }
 }

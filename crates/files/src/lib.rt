@@ -4,6 +4,7 @@
 pub mod disk;
 pub mod format;
 pub mod front;
+pub mod kind;
 pub mod outside;
 pub mod plays;
 pub mod records;

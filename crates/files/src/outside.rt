@@ -2,9 +2,23 @@
 ghost use Rattle.std.specs.Prelude.{Bool, is_ok};
 ghost use Rattle.files.specs.Effects.{Effect, Append, Sync, Send, CutBack};
 
+use std::alloc::{AllocError, AllocFailed};
+
 // The outside failed, and nothing more may be asked of it.
-#[derive(Clone, Copy, Debug)]
+#[derive(Clone, Copy, PartialEq, Eq, Debug)]
 pub struct Lost;
+
+impl<T: Drop> From<AllocFailed<T>> for Lost {
+    fn from(_e: AllocFailed<T>) -> Lost {
+        Lost
+    }
+}
+
+impl From<AllocError> for Lost {
+    fn from(_e: AllocError) -> Lost {
+        Lost
+    }
+}
 
 // `did s e ok t`: the effect e was asked at s, was done if ok, and left t.
 pub trait Outside {

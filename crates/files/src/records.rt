@@ -1,75 +1,66 @@
 // How the records of a boat's and of the harbour's file begin. All numbers have their high byte first.
-ghost use Rattle.std.specs.Prelude.{◌≡◌, length};
-ghost use Rattle.files.specs.declared.front.Front.TheVariants.{Whole};
+ghost use Rattle.std.specs.Prelude.{◌≡◌, length, Ok, Some};
 ghost use Rattle.files.specs.Encodings.{AllSeen};
-ghost use Rattle.files.specs.Records.{sized_front, named_front, word_front, boat_front, harbour_front};
+ghost use Rattle.files.specs.Records.{sized, named_front, word_front, boat_front, harbour_front};
 ghost use Rattle.files.specs.Shapes.{boat_within, boat_more, boat_cut, harbour_within, harbour_more, harbour_cut_lem};
 
 use crate::format::Format;
-use crate::front::Front;
+use crate::front::Wrong;
+use crate::kind::Kind;
 use levels::numbers::{FormNumber, Program};
 use levels::rules::reads;
 
-// A record's kind is its first byte.
-const FLOOR: u8 = 6;
+// Where a word's record has its form.
+const FORM_AT: usize = 7;
 
-const LEVEL: u8 = 7;
+// Where the record of a word in form 3 has the length of its name; the name stands behind it, at its end.
+const NAME_LENGTH_AT: usize = 18;
 
-const WORD: u8 = 8;
-
-const BOAT: u8 = 9;
-
-const USED: u8 = 10;
+const LONGEST_NAME: u8 = 40;
 
 // A boat's file, as a program reads it.
-#[derive(Clone, Copy)]
+#[derive(Clone, Copy, PartialEq, Eq, Debug)]
 pub struct BoatFormat {
     pub program: Program,
 }
 
 // The harbour's file.
-#[derive(Clone, Copy)]
+#[derive(Clone, Copy, PartialEq, Eq, Debug)]
 pub struct HarbourFormat;
 
 // A record of `size` bytes, where they are all there.
-fn sized(size: usize, bytes: &[u8]) -> Front
-    ensures { result ≡ sized_front size bytes.now }
+fn sized(size: usize, bytes: &[u8]) -> Option<usize>
+    ensures { result ≡ sized size bytes.now }
 {
-    if size <= bytes.len() {
-        Front::Whole(size)
-    } else {
-        Front::Short
-    }
+    (size <= bytes.len()).then_some(size)
 }
 
 // The record of a word in form 3, whose size follows from its name's length.
-fn named(bytes: &[u8]) -> Front
+fn named(bytes: &[u8]) -> Result<Option<usize>, Wrong>
     ensures { result ≡ named_front bytes.now }
 {
-    if bytes.len() < 19 {
-        return Front::Short;
+    let Some(&length) = bytes.get(NAME_LENGTH_AT) else {
+        return Ok(None);
+    };
+    if length > LONGEST_NAME {
+        return Err(Wrong);
     }
-    let name = bytes[18];
-    if name > 40 {
-        return Front::Wrong;
-    }
-    sized(19 + name as usize, bytes)
+    Ok(sized(NAME_LENGTH_AT + 1 + usize::from(length), bytes))
 }
 
-// The record of a word: kind, from, number, and then the word, whose form is its first byte.
-fn word(program: Program, bytes: &[u8]) -> Front
+// The record of a word: kind, from, number, and then the word, whose form is its first byte. A match over the form's number, as the project's rules want it.
+fn word(program: Program, bytes: &[u8]) -> Result<Option<usize>, Wrong>
     ensures { result ≡ word_front program.0 bytes.now }
 {
-    if bytes.len() < 8 {
-        return Front::Short;
-    }
-    let form = bytes[7];
+    let Some(&form) = bytes.get(FORM_AT) else {
+        return Ok(None);
+    };
     if !reads(program, FormNumber(form)) {
-        return Front::Wrong;
+        return Err(Wrong);
     }
     match form {
-        1 => sized(16, bytes),
-        2 => sized(18, bytes),
+        1 => Ok(sized(16, bytes)),
+        2 => Ok(sized(18, bytes)),
         _ => named(bytes),
     }
 }
@@ -77,7 +68,7 @@ fn word(program: Program, bytes: &[u8]) -> Front
 impl Format for BoatFormat {
     ghost begins = { λ f. boat_front f.program.0 };
 
-    ghost known = { λ f bs. boat_front f.program.0 bs ≡ Whole (length bs) };
+    ghost known = { λ f bs. boat_front f.program.0 bs ≡ Ok (Some (length bs)) };
 
     ghost within = { λ f bs n e. boat_within f.program.0 bs n e };
 
@@ -87,14 +78,14 @@ impl Format for BoatFormat {
 
     ghost cut = { λ f bs n e l. boat_cut f.program.0 bs n e l };
 
-    fn front(&self, bytes: &[u8]) -> Front {
-        if bytes.len() == 0 {
-            return Front::Short;
-        }
-        match bytes[0] {
-            FLOOR | LEVEL | USED => sized(5, bytes),
-            WORD => word(self.program, bytes),
-            _ => Front::Wrong,
+    fn front(&self, bytes: &[u8]) -> Result<Option<usize>, Wrong> {
+        let Some(&kind) = bytes.first() else {
+            return Ok(None);
+        };
+        match Kind::try_from(kind)? {
+            Kind::Floor | Kind::Level | Kind::Used => Ok(sized(5, bytes)),
+            Kind::Word => word(self.program, bytes),
+            Kind::Boat => Err(Wrong),
         }
     }
 }
@@ -102,7 +93,7 @@ impl Format for BoatFormat {
 impl Format for HarbourFormat {
     ghost begins = { λ _. harbour_front };
 
-    ghost known = { λ _ bs. harbour_front bs ≡ Whole (length bs) };
+    ghost known = { λ _ bs. harbour_front bs ≡ Ok (Some (length bs)) };
 
     ghost within = { λ f bs n e. harbour_within bs n e };
 
@@ -112,14 +103,14 @@ impl Format for HarbourFormat {
 
     ghost cut = { λ f bs n e l. harbour_cut_lem bs n e l };
 
-    fn front(&self, bytes: &[u8]) -> Front {
-        if bytes.len() == 0 {
-            return Front::Short;
-        }
-        match bytes[0] {
-            LEVEL => sized(5, bytes),
-            BOAT => sized(7, bytes),
-            _ => Front::Wrong,
+    fn front(&self, bytes: &[u8]) -> Result<Option<usize>, Wrong> {
+        let Some(&kind) = bytes.first() else {
+            return Ok(None);
+        };
+        match Kind::try_from(kind)? {
+            Kind::Level => Ok(sized(5, bytes)),
+            Kind::Boat => Ok(sized(7, bytes)),
+            Kind::Floor | Kind::Word | Kind::Used => Err(Wrong),
         }
     }
 }
@@ -127,5 +118,4 @@ impl Format for HarbourFormat {
 // Every record that a program reads, as bytes, is one that its format knows.
 pub fn records_stand()
     ensures { AllSeen }
-{
-}
+{}

@@ -1,31 +1,11 @@
 // What is asked of a simulated disk, and how it falls.
-ghost use Rattle.std.specs.Prelude.{◌≡◌, map};
+ghost use Rattle.std.specs.Prelude.{◌≡◌, true, false, map, MatchResult};
 ghost use Rattle.files.specs.Holdings.{runs, lowered, empty, file, ended, cut_to, limited};
 ghost use Rattle.files.specs.Disks.{held, DiskDid};
 
 use super::Disk;
 use crate::outside::{Lost, Outside};
 use std::alloc::Global;
-
-// Can one more effect be done?
-fn running(budget: Option<u32>) -> bool
-    ensures { result ≡ runs budget }
-{
-    match budget {
-        None => true,
-        Some(left) => left > 0,
-    }
-}
-
-// The budget after one effect.
-fn spent(budget: Option<u32>) -> Option<u32>
-    ensures { result ≡ lowered budget }
-{
-    match budget {
-        None => None,
-        Some(left) => Some(left.saturating_sub(1)),
-    }
-}
 
 impl Disk {
     // An empty file, nothing sent, and no limit.
@@ -52,7 +32,7 @@ impl Disk {
     pub fn synced(&self) -> &[u8]
         ensures { result.now ≡ (held self.now).synced }
     {
-        &self.bytes.as_slice()[0..self.synced]
+        &self.bytes.as_slice()[..self.synced]
     }
 
     // Every message ever sent, in order.
@@ -85,53 +65,48 @@ impl Disk {
             self.bytes.truncate(self.synced + left);
         }
     }
+
+    // The budget after one more effect, where one can still be done.
+    fn spent(&self) -> Result<Option<u32>, Lost>
+        ensures { MatchResult result (λ left. (runs self.now.budget ≡ true) × (left ≡ lowered self.now.budget)) (λ _. runs self.now.budget ≡ false) }
+    {
+        self.budget
+            .map(|left| left.checked_sub(1).ok_or(Lost))
+            .transpose()
+    }
 }
 
 impl Outside for Disk {
     ghost did = { DiskDid };
 
     fn append(&mut self, bytes: &[u8]) -> Result<(), Lost> {
-        if !running(self.budget) {
-            return Err(Lost);
-        }
-        if self.bytes.extend_from_slice(bytes).is_err() {
-            return Err(Lost);
-        }
-        self.budget = spent(self.budget);
+        let budget = self.spent()?;
+        self.bytes.extend_from_slice(bytes)?;
+        self.budget = budget;
         Ok(())
     }
 
     fn sync(&mut self) -> Result<(), Lost> {
-        if !running(self.budget) {
-            return Err(Lost);
-        }
-        let whole = self.bytes.len();
-        self.synced = whole;
-        self.budget = spent(self.budget);
+        self.budget = self.spent()?;
+        self.synced = self.bytes.len();
         Ok(())
     }
 
     fn send(&mut self, bytes: &[u8]) -> Result<(), Lost> {
-        if !running(self.budget) {
-            return Err(Lost);
-        }
-        let mut copy = Vec::new(self.heap);
-        if copy.extend_from_slice(bytes).is_err() {
-            return Err(Lost);
-        }
-        if self.sent.push(copy).is_err() {
-            return Err(Lost);
-        }
-        self.budget = spent(self.budget);
+        let budget = self.spent()?;
+        let mut message = Vec::new(self.heap);
+        message.extend_from_slice(bytes)?;
+        self.sent.push(message)?;
+        self.budget = budget;
         Ok(())
     }
 
     fn cut_back(&mut self, len: usize) -> Result<(), Lost> {
-        if !running(self.budget) || len < self.synced {
+        if len < self.synced {
             return Err(Lost);
         }
+        self.budget = self.spent()?;
         self.bytes.truncate(len);
-        self.budget = spent(self.budget);
         Ok(())
     }
 }

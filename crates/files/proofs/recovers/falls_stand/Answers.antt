@@ -2,4 +2,4 @@ use Rattle.files.proofs.Comebacks.{falls_torn}
 use Rattle.files.proofs.recovers.falls_stand.Goals as goal
 
 pub returns : goal.returns
-returns g c = falls_torn (g.F.Format.known c.args.format.now)
+returns g c f = falls_torn (g.F.Format.known f)
