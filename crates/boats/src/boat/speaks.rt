@@ -77,10 +77,7 @@ impl Boat {
         if !accepts(self.number, message.to) {
             return Err(Unheard::Elsewhere);
         }
-        Ok(
-            self.memory
-                .judge(self.number, message.from, message.number, message.body)?,
-        )
+        Ok(self.memory.judge(self.number, message)?)
     }
 }
 
@@ -127,9 +124,15 @@ impl Memory {
     }
 
     // What it does with a message that is for it.
-    fn judge(&mut self, me: BoatId, from: BoatId, number: u32, body: Body) -> Result<Step, Refusal>
-        ensures { Performs deed_of (spec.judging me.0 (known self.old) from.0 number (telling body)) result (known self.old) (known self.new) }
+    fn judge(&mut self, me: BoatId, message: Message) -> Result<Step, Refusal>
+        ensures { Performs deed_of (spec.judging me.0 (known self.old) message.from.0 message.number (telling message.body)) result (known self.old) (known self.new) }
     {
+        let Message {
+            from,
+            number,
+            body,
+            ..
+        } = message;
         match body {
             Body::Word(word) if from != BoatId::HARBOUR => self.keep(from, number, word),
             Body::Heard(floor) if from == BoatId::HARBOUR => Ok(self.assure(floor)),

@@ -81,9 +81,10 @@ impl Harbour {
     }
 
     // What it does with a message that is for it: promises and what was taken come from boats.
-    fn judge(&mut self, from: BoatId, body: Body) -> Result<Step, Refusal>
-        ensures { Performs deed_of (spec.judging (book_of self.old) from.0 (telling body)) result (book_of self.old) (book_of self.new) }
+    fn judge(&mut self, message: Message) -> Result<Step, Refusal>
+        ensures { Performs deed_of (spec.judging (book_of self.old) message.from.0 (telling message.body)) result (book_of self.old) (book_of self.new) }
     {
+        let Message { from, body, .. } = message;
         match body {
             Body::Promise(floor) if from != BoatId::HARBOUR => self.confirm(from, floor),
             Body::Taken(_) if from != BoatId::HARBOUR => self.acknowledge(from),
@@ -98,7 +99,7 @@ impl Harbour {
         if !accepts(BoatId::HARBOUR, message.to) {
             return Err(Unheard::Elsewhere);
         }
-        Ok(self.judge(message.from, message.body)?)
+        Ok(self.judge(message)?)
     }
 
     // Says a level that all of the list have promised, to each of them.
