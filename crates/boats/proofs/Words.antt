@@ -1,6 +1,6 @@
 -- The words of a journal as it lies in its file.
 -- Assumes nothing.
-use Rattle.std.proofs.Common.{◌≡◌, ℕ, suc, ◌+◌, ◌<◌, ◌≤◌, Bool, true, false, cond, not, eqb, ltb, leb, List, [], ◌∷◌, ◌++◌, length, get_or, take, drop, is_some, Some, None, Ok, Err, vec_items, Option, sym, refl, ap, ◌∙◌, subst, suc-le-suc, zero-le, le_trans, le_refl, arith}
+use Rattle.std.proofs.Common.{◌≡◌, ℕ, suc, ◌+◌, ◌<◌, ◌≤◌, Bool, true, false, cond, not, eqb, ltb, leb, List, [], ◌∷◌, length, get_or, take, is_some, Some, None, Ok, Err, vec_items, sym, refl, ap, subst, suc-le-suc, zero-le, le_refl, arith}
 use Rattle.std.proofs.lemmas.List.{length-map}
 use Rattle.std.proofs.lemmas.Bool.{and_parts, le-leb, lt-leb, leb-true}
 use Rattle.levels.specs.Verdicts.{Verdict, Number, Bad, Memory, Due}
@@ -32,7 +32,7 @@ placed_new x [] e = le_refl 1
 placed_new x (s ∷ ss) e = go (ltb s.ship x.ship) (eqb s.ship x.ship) e (placed_new x ss)
   where
     go : (p q : Bool) → cond q (Some s) (slot_of x.ship ss) ≡ None → (slot_of x.ship ss ≡ None → suc (length ss) ≤ length (placed x ss)) → suc (suc (length ss)) ≤ length (cond p (s ∷ placed x ss) (cond q (x ∷ ss) (x ∷ s ∷ ss)))
-    go p true e h = absurd (cc)
+    go p true e h = absurd cc
     go true false e h = suc-le-suc (h e)
     go false false e h = le_refl _
 
@@ -50,7 +50,7 @@ replayed (level_is k) rs y e = cc
 replayed (word_is b n u) rs y e = go (crowded (journal.log rs) (ship_of u)) e
   where
     go : (t : Bool) → cond t (Err (Number 6)) (Ok (restored (journal.log rs) b n u)) ≡ Ok y → y ≡ journal.log (word_is b n u ∷ rs)
-    go true e = absurd (cc)
+    go true e = absurd cc
     go false e = let q : restored (journal.log rs) b n u ≡ y = cc in sym q
 replayed (boat_is b f) rs y e = cc
 replayed (used_to n) rs y e = cc
@@ -69,7 +69,7 @@ unfit (word_is b n u) rs m v l d = go (crowded (journal.log rs) (ship_of u)) ref
 
     go : (t : Bool) → crowded (journal.log rs) (ship_of u) ≡ t → (v : Verdict) → Due (cond t (Err (Number 6)) (Ok (restored (journal.log rs) b n u))) v → Unfit (leb m 4096) v
     go true e (Number k) d = let q : k ≡ 6 = cc in (q, full e)
-    go true e Bad d = absurd (cc)
+    go true e Bad d = absurd cc
     go true e Memory d = tt
     go false e v d = due_none (restored (journal.log rs) b n u) _ v d
 unfit (boat_is b f) rs m v l d = due_none (journal.log rs) _ v d

@@ -1,6 +1,6 @@
 -- The harbour's journal as it lies in its file.
 -- Assumes nothing.
-use Rattle.std.proofs.Common.{◌≡◌, ℕ, suc, ◌+◌, ◌<◌, ◌≤◌, max, Bool, true, false, cond, not, ◌&&◌, eqb, ltb, leb, List, [], ◌∷◌, ◌++◌, length, get_or, take, drop, is_some, Some, None, Ok, Err, vec_items, Option, sym, refl, ap, ◌∙◌, subst, le_trans, le_refl, arith}
+use Rattle.std.proofs.Common.{◌≡◌, ℕ, suc, ◌+◌, ◌<◌, ◌≤◌, max, Bool, true, false, cond, not, ◌&&◌, eqb, ltb, leb, List, [], ◌∷◌, length, get_or, take, is_some, Ok, Err, vec_items, sym, refl, ap, ◌∙◌, subst, le_refl, arith}
 use Rattle.std.proofs.lemmas.Bool.{and_parts, le-leb, lt-leb, leb-true, cond-false}
 use Rattle.std.proofs.lemmas.Bool.Decides.{nat_tests}
 use Rattle.ledger.specs.declared.book.Entry.{Entry}
@@ -63,8 +63,8 @@ enlisted_is (word_is b n u) rs y e = let q : recalled rs ≡ y = cc in same_said
 enlisted_is (boat_is b f) rs y e = go (eqb b 0) (not (is_some (floor_of b (journal.boats rs))) && leb 4096 (length (journal.boats rs))) e
   where
     go : (s t : Bool) → cond s (Err Bad) (promised b f (cond t (Err (Number 6)) (Ok (record { list = admitted b (journal.boats rs); said = journal.level rs })))) ≡ Ok y → y ≡ recalled (boat_is b f ∷ rs)
-    go true t e = absurd (cc)
-    go false true e = absurd (cc)
+    go true t e = absurd cc
+    go false true e = absurd cc
     go false false e =
         let x : Book = record { list = heard b f (admitted b (journal.boats rs)); said = journal.level rs } in
         let q : x ≡ y = cc in
@@ -88,7 +88,7 @@ unfit_boats (boat_is b f) rs m v o l d = go (eqb b 0) (not (is_some (floor_of b 
     go : (s t : Bool) → eqb b 0 ≡ s → not (is_some (floor_of b (journal.boats rs))) && leb 4096 (length (journal.boats rs)) ≡ t → (v : Verdict) → Due (cond s (Err Bad) (promised b f (cond t (Err (Number 6)) (Ok (record { list = admitted b (journal.boats rs); said = journal.level rs }))))) v → Unfit (leb m 4096) v
     go true t e g v d = absurd (grind (arith, nat_tests))
     go false true e g (Number k) d = let q : k ≡ 6 = cc in (q, full g)
-    go false true e g Bad d = absurd (cc)
+    go false true e g Bad d = absurd cc
     go false true e g Memory d = tt
     go false false e g v d = due_none {A = Book} (record { list = heard b f (admitted b (journal.boats rs)); said = journal.level rs }) _ v d
 unfit_boats (used_to n) rs m v o l d = due_none (recalled rs) _ v d

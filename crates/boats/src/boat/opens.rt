@@ -25,7 +25,7 @@ fn replay(log: &mut Logbook, record: Record) -> Result<(), Refusal>
     }
 }
 
-// The words of a journal.
+// The words of a journal. The harbour has such a loop too: one for both would be given its step as a closure, whose contract is longer than the loop.
 fn rebuild(heap: Global, journal: &[Record]) -> Result<Logbook, Refusal>
     ensures { Rebuilt (filed journal.now) result }
 {

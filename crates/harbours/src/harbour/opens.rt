@@ -46,7 +46,7 @@ fn enlist(ledger: &mut Ledger, record: Record) -> Result<(), Refusal>
     }
 }
 
-// The list and the level of a journal whose records are all the harbour's.
+// The list and the level of a journal whose records are all the harbour's. Boats have such a loop too: one for both would be given its step as a closure, whose contract is longer than the loop.
 fn enlist_all(heap: Global, journal: &[Record]) -> Result<Ledger, Refusal>
     requires { journals.every journals.harbour_reads (filed journal.now) ≡ true }
     ensures { Reenlisted (filed journal.now) result }
