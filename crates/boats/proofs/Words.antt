@@ -1,6 +1,6 @@
 -- The words of a journal as it lies in its file.
 -- Assumes nothing.
-use Rattle.std.proofs.Common.{◌≡◌, ℕ, suc, ◌+◌, ◌<◌, ◌≤◌, Bool, true, false, cond, not, eqb, ltb, leb, List, [], ◌∷◌, ◌++◌, length, get_or, take, drop, is_some, Some, None, Ok, Err, Option, sym, refl, ap, ◌∙◌, subst, suc-le-suc, zero-le, le_trans, le_refl, arith}
+use Rattle.std.proofs.Common.{◌≡◌, ℕ, suc, ◌+◌, ◌<◌, ◌≤◌, Bool, true, false, cond, not, eqb, ltb, leb, List, [], ◌∷◌, length, get_or, take, is_some, Some, None, Ok, Err, sym, refl, ap, subst, suc-le-suc, zero-le, le_refl, arith}
 use Rattle.std.proofs.lemmas.List.{length-map}
 use Rattle.std.proofs.lemmas.Bool.{and_parts, le-leb, lt-leb, leb-true}
 use Rattle.levels.specs.Verdicts.{Verdict, Number, Bad, Memory, Due}
@@ -17,10 +17,10 @@ use Rattle.stations.specs.Journals as journal
 use Rattle.boats.specs.Openings.{replaying}
 use Rattle.stations.specs.Openings.{Unfit}
 use Rattle.stations.specs.Steps.{filed}
-use Rattle.stations.proofs.Files.{filed_at, filed_rest, due_none}
+use Rattle.stations.proofs.Files.{grown_at, known_more, none_there, due_none}
 
 -- the slots only become more
-pub placed_length : (x : Kept) (ks : List Kept) → length ks ≤ length (placed x ks)
+placed_length : (x : Kept) (ks : List Kept) → length ks ≤ length (placed x ks)
 placed_length x [] = zero-le
 placed_length x (s ∷ ss) = go (ltb s.ship x.ship) (eqb s.ship x.ship) (placed_length x ss)
   where
@@ -29,12 +29,12 @@ placed_length x (s ∷ ss) = go (ltb s.ship x.ship) (eqb s.ship x.ship) (placed_
     go false true h = le_refl _
     go false false h = omega arith
 
-pub placed_new : (x : Kept) (ks : List Kept) → slot_of x.ship ks ≡ None → suc (length ks) ≤ length (placed x ks)
+placed_new : (x : Kept) (ks : List Kept) → slot_of x.ship ks ≡ None → suc (length ks) ≤ length (placed x ks)
 placed_new x [] e = le_refl 1
 placed_new x (s ∷ ss) e = go (ltb s.ship x.ship) (eqb s.ship x.ship) e (placed_new x ss)
   where
     go : (p q : Bool) → cond q (Some s) (slot_of x.ship ss) ≡ None → (slot_of x.ship ss ≡ None → suc (length ss) ≤ length (placed x ss)) → suc (suc (length ss)) ≤ length (cond p (s ∷ placed x ss) (cond q (x ∷ ss) (x ∷ s ∷ ss)))
-    go p true e h = let z : ◌≡◌ {A = ℕ} 0 1 = cc in absurd (omega arith)
+    go p true e h = absurd cc
     go true false e h = suc-le-suc (h e)
     go false false e h = le_refl _
 
@@ -45,27 +45,19 @@ slots_more (word_is b n u) rs = placed_length (slot b n u) (journal.slots rs)
 slots_more (boat_is b f) rs = le_refl _
 slots_more (used_to n) rs = le_refl _
 
-pub slots_all : (ps rs : List Written) → length (journal.slots rs) ≤ length (journal.slots (ps ++ rs))
-slots_all [] rs = le_refl _
-slots_all (p ∷ ps) rs = le_trans (slots_all ps rs) (slots_more p (ps ++ rs))
-
 -- the log takes a record, or refuses it
-none_there : {A : Type 0} (o : Option A) → not (is_some o) ≡ true → o ≡ None
-none_there None h = refl
-none_there (Some a) h = let z : ◌≡◌ {A = ℕ} 0 1 = cc in absurd (omega arith)
-
-pub replayed : (r : Written) (rs : List Written) (y : Log) → replaying (journal.log rs) r ≡ Ok y → y ≡ journal.log (r ∷ rs)
+replayed : (r : Written) (rs : List Written) (y : Log) → replaying (journal.log rs) r ≡ Ok y → y ≡ journal.log (r ∷ rs)
 replayed (floor_is f) rs y e = cc
 replayed (level_is k) rs y e = cc
 replayed (word_is b n u) rs y e = go (crowded (journal.log rs) (ship_of u)) e
   where
     go : (t : Bool) → cond t (Err (Number 6)) (Ok (restored (journal.log rs) b n u)) ≡ Ok y → y ≡ journal.log (word_is b n u ∷ rs)
-    go true e = let z : ◌≡◌ {A = ℕ} 0 1 = cc in absurd (omega arith)
+    go true e = absurd cc
     go false e = let q : restored (journal.log rs) b n u ≡ y = cc in sym q
 replayed (boat_is b f) rs y e = cc
 replayed (used_to n) rs y e = cc
 
-pub unfit : (r : Written) (rs : List Written) (m : ℕ) (v : Verdict) → length (journal.slots (r ∷ rs)) ≤ m → Due (replaying (journal.log rs) r) v → Unfit (leb m 4096) v
+unfit : (r : Written) (rs : List Written) (m : ℕ) (v : Verdict) → length (journal.slots (r ∷ rs)) ≤ m → Due (replaying (journal.log rs) r) v → Unfit (leb m 4096) v
 unfit (floor_is f) rs m v l d = due_none (journal.log rs) _ v d
 unfit (level_is k) rs m v l d = due_none (journal.log rs) _ v d
 unfit (word_is b n u) rs m v l d = go (crowded (journal.log rs) (ship_of u)) refl v d
@@ -79,7 +71,7 @@ unfit (word_is b n u) rs m v l d = go (crowded (journal.log rs) (ship_of u)) ref
 
     go : (t : Bool) → crowded (journal.log rs) (ship_of u) ≡ t → (v : Verdict) → Due (cond t (Err (Number 6)) (Ok (restored (journal.log rs) b n u))) v → Unfit (leb m 4096) v
     go true e (Number k) d = let q : k ≡ 6 = cc in (q, full e)
-    go true e Bad d = let z : ◌≡◌ {A = ℕ} 0 1 = cc in absurd (omega arith)
+    go true e Bad d = absurd cc
     go true e Memory d = tt
     go false e v d = due_none (restored (journal.log rs) b n u) _ v d
 unfit (boat_is b f) rs m v l d = due_none (journal.log rs) _ v d
@@ -87,15 +79,11 @@ unfit (used_to n) rs m v l d = due_none (journal.log rs) _ v d
 
 -- in the turn at a record
 pub rebuilt_more : (xs : List Record) (i : ℕ) (r : Record) (x y : Log) → i < length xs → r ≡ get_or xs i r → x ≡ journal.log (filed (take i xs)) → replaying x (written r) ≡ Ok y → y ≡ journal.log (filed (take (i + 1) xs))
-rebuilt_more xs i r x y h g e f =
-    replayed (written r) (filed (take i xs)) y (ap (λ a. replaying a (written r)) (sym e) ∙ f) ∙ sym (ap journal.log (filed_at xs i r h g))
+rebuilt_more = known_more journal.log replaying replayed
 
 pub refused_at : (xs : List Record) (i : ℕ) (r : Record) (x : Log) (v : Verdict) → i < length xs → r ≡ get_or xs i r → x ≡ journal.log (filed (take i xs)) → Due (replaying x (written r)) v → Unfit (leb (length (journal.slots (filed xs))) 4096) v
 refused_at xs i r x v h g e d =
-    let P : List Written → Type 0 = λ rs. length (journal.slots rs) ≤ length (journal.slots (filed xs)) in
-    let Q : List Written → Type 0 = λ rs. length (journal.slots (filed (take (i + 1) xs))) ≤ length (journal.slots rs) in
-    let l : P (written r ∷ filed (take i xs)) = subst P (filed_at xs i r h g) (subst Q (sym (filed_rest xs (i + 1))) (slots_all (filed (drop (i + 1) xs)) (filed (take (i + 1) xs)))) in
-    unfit (written r) (filed (take i xs)) (length (journal.slots (filed xs))) v l (subst (λ a. Due (replaying a (written r)) v) e d)
+    unfit (written r) (filed (take i xs)) (length (journal.slots (filed xs))) v (grown_at (λ rs. length (journal.slots rs)) slots_more xs i r h g) (subst (λ a. Due (replaying a (written r)) v) e d)
 
 -- a table that there is has place for all
 pub fits : (l : Logbook) (rs : List Written) → logs.log l ≡ journal.log rs → leb (length (journal.slots rs)) 4096 ≡ true

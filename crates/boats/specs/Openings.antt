@@ -1,8 +1,9 @@
 -- How a boat's program finds what its journal has.
 -- Assumes nothing.
-use Rattle.std.specs.Prelude.{◌≡◌, ℕ, max, true, ◌&&◌, List, length, Ok, Err, Result, nat_le}
+use Rattle.std.specs.Prelude.{◌≡◌, ℕ, max, true, cond, List, length, Option, Ok, Err, Result, nat_le}
 use Rattle.levels.specs.declared.refusals.Refusal.{Refusal}
-use Rattle.levels.specs.Verdicts.{Verdict, verdict}
+use Rattle.levels.specs.Verdicts.{Verdict, Number, verdict}
+use Rattle.messages.specs.declared.Message.{Message}
 use Rattle.logbooks.specs.declared.log.Logbook.{Logbook}
 use Rattle.logbooks.specs.Logs as logs
 use Rattle.logbooks.specs.Logs.{Log, restoring}
@@ -16,12 +17,21 @@ use Rattle.stations.specs.Journals as journal
 use Rattle.stations.specs.Openings.{Unfit, Barred}
 use Rattle.stations.specs.Steps.{deed_of}
 
--- what a look through a journal finds, and what one record more adds
-abbrev pub surveyed : ℕ → List Written → Survey
-surveyed v rs = record { readable = journal.every (journal.boat_reads v) rs; floor = journal.floor rs; level = journal.level rs; used = journal.used rs }
+-- what a look through a journal finds
+pub record Found : Type 0 where
+  pub floor : ℕ
+  pub level : ℕ
+  pub used : ℕ
 
-abbrev pub noting : ℕ → Written → Survey → Survey
-noting v r s = record { readable = journal.boat_reads v r && s.readable; floor = max (journal.floor_in r) s.floor; level = max (journal.level_in r) s.level; used = max (journal.used_in r) s.used }
+abbrev pub found : Survey → Found
+found s = record { floor = s.floor.0; level = s.level.0; used = s.used }
+
+-- what a program v finds, and what one record more adds; a record that it doesn't read is 1
+abbrev pub surveyed : ℕ → List Written → Result Found Verdict
+surveyed v rs = cond (journal.every (journal.boat_reads v) rs) (Ok (record { floor = journal.floor rs; level = journal.level rs; used = journal.used rs })) (Err (Number 1))
+
+abbrev pub noting : ℕ → Written → Found → Result Found Verdict
+noting v r s = cond (journal.boat_reads v r) (Ok (record { floor = max (journal.floor_in r) s.floor; level = max (journal.level_in r) s.level; used = max (journal.used_in r) s.used })) (Err (Number 1))
 
 -- the log takes one record more
 abbrev pub replaying : Log → Written → Result Log Verdict
@@ -37,6 +47,6 @@ Rebuilt rs (Ok l) = (logs.log l ≡ journal.log rs) × (nat_le (length (journal.
 Rebuilt rs (Err e) = Unfit (nat_le (length (journal.slots rs)) 4096) (verdict e)
 
 -- a boat opens its journal
-abbrev pub Opens : ℕ → ℕ → List Written → Result (Boat × Step) Refusal → Type 0
+abbrev pub Opens : ℕ → ℕ → List Written → Result (Boat × Step (Option Message)) Refusal → Type 0
 Opens me v rs (Ok p) = (boats.starting me v rs ≡ Ok (deed_of p.1, memory p.0)) × (number_of p.0 ≡ me)
 Opens me v rs (Err e) = Barred (boats.starting me v rs) (verdict e)

@@ -7,10 +7,16 @@ mod opens;
 mod reads;
 mod speaks;
 
-// Its number, its standing, whether its promise was answered, the numbers that its words have used, and the words that it keeps.
+// Its number, and what it knows.
 #[derive(Drop)]
 pub struct Boat {
     number: BoatId,
+    memory: Memory,
+}
+
+// Its standing, whether its promise was answered, the numbers that its words have used, and the words that it keeps.
+#[derive(Drop)]
+struct Memory {
     standing: Standing,
     answered: bool,
     used: u32,

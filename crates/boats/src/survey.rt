@@ -1,92 +1,54 @@
 // What a boat's journal has that takes no place in memory.
-ghost use Rattle.std.specs.Prelude.{◌≡◌, ◌≤◌};
-ghost use Rattle.records.specs.Records.{written};
-ghost use Rattle.stations.specs.Journals as journals;
-ghost use Rattle.boats.specs.Openings.{surveyed, noting};
-ghost use Rattle.stations.specs.Steps.{filed};
+ghost use Rattle.std.specs.Prelude.{◌≤◌};
 
-use levels::numbers::Program;
+use levels::numbers::{Level, Program};
+use levels::refusals::Refusal;
 use levels::rules::reads;
 use records::Record;
 
-// Does the program read every record; the floor, the level and the numbers used.
+// The floor, the level and the numbers used: of each the highest.
 #[derive(Clone, Copy)]
 pub struct Survey {
-    pub readable: bool,
-    pub floor: u32,
-    pub level: u32,
+    pub floor: Program,
+    pub level: Level,
     pub used: u32,
-}
-
-// Does a boat that runs a program read a record?
-fn is_read(program: Program, record: Record) -> bool
-    ensures { result ≡ journals.boat_reads program.0 (written «record») }
-{
-    match record {
-        Record::Word { word, .. } => reads(program, word.form()),
-        Record::Listed { .. } => false,
-        _ => true,
-    }
-}
-
-// The floor that a record has, 0 where it has none.
-fn floor_in(record: Record) -> u32
-    ensures { result ≡ journals.floor_in (written «record») }
-{
-    match record {
-        Record::Floor(floor) => floor.0,
-        _ => 0,
-    }
-}
-
-// The level that a record has, 0 where it has none.
-fn level_in(record: Record) -> u32
-    ensures { result ≡ journals.level_in (written «record») }
-{
-    match record {
-        Record::Allowed(level) => level.0,
-        _ => 0,
-    }
-}
-
-// The numbers that a record says are used, 0 where it says nothing of them.
-fn used_in(record: Record) -> u32
-    ensures { result ≡ journals.used_in (written «record») }
-{
-    match record {
-        Record::Used(used) => used,
-        _ => 0,
-    }
+    ghost begun: { 1 ≤ floor.0 },
+    ghost levelled: { 1 ≤ level.0 },
 }
 
 impl Survey {
-    // One record more: of floor, level and numbers the highest counts.
-    fn noting(self, program: Program, record: Record) -> Survey
-        ensures { result ≡ noting program.0 (written «record») self }
-    {
-        let read = is_read(program, record);
-        Survey {
-            readable: read && self.readable,
-            floor: floor_in(record).max(self.floor),
-            level: level_in(record).max(self.level),
-            used: used_in(record).max(self.used),
-        }
-    }
-}
+    ghost use Rattle.std.specs.Prelude.{◌≡◌};
+    ghost use Rattle.levels.specs.Verdicts.{told, Does};
+    ghost use Rattle.records.specs.Records.{written};
+    ghost use Rattle.boats.specs.Openings.{found, surveyed, noting};
+    ghost use Rattle.stations.specs.Steps.{filed};
 
-// Looks through a journal.
-pub fn look_through(program: Program, journal: &[Record]) -> Survey
-    ensures found { result ≡ surveyed program.0 (filed journal.now) }
-    ensures begun { (1 ≤ result.floor) × (1 ≤ result.level) }
-{
-    let mut found = Survey {
-        readable: true,
-        floor: 1,
-        level: 1,
-        used: 0,
-    };
-    for record in journal {
-        found = found.noting(program, *record);
+    // One record more; one that the program does not read is refused.
+    fn note(&mut self, program: Program, record: Record) -> Result<(), Refusal>
+        ensures { Does (noting program.0 (written «record») (found self.old)) result (found self.old) (found self.new) }
+    {
+        match record {
+            Record::Floor(floor) => self.floor = self.floor.max(floor),
+            Record::Allowed(level) => self.level = self.level.max(level),
+            Record::Used(used) => self.used = self.used.max(used),
+            Record::Word { word, .. } if reads(program, word.form()) => {}
+            Record::Word { .. } | Record::Listed { .. } => return Err(Refusal::Malformed),
+        }
+        Ok(())
     }
-    found
+
+    // Looks through a journal. A record that the program does not read is refused.
+    pub fn look_through(program: Program, journal: &[Record]) -> Result<Survey, Refusal>
+        ensures { told found result ≡ surveyed program.0 (filed journal.now) }
+    {
+        let mut survey = Survey {
+            floor: Program(1),
+            level: Level(1),
+            used: 0,
+        };
+        for record in journal {
+            survey.note(program, *record)?;
+        }
+        Ok(survey)
+    }
 }

@@ -28,7 +28,7 @@ heard_entered b [] h = cond-true (eqb b b) (entry b 1 ∷ []) (entry b 1 ∷ [])
 heard_entered b (e ∷ es) h = go (ltb e.boat.0 b) (eqb e.boat.0 b) refl h (heard_entered b es)
   where
     go : (p q : Bool) → eqb e.boat.0 b ≡ q → is_some (cond q (Some e.floor.0) (floor_of b es)) ≡ false → (is_some (floor_of b es) ≡ false → heard b 1 (entered b es) ≡ entered b es) → heard b 1 (cond p (e ∷ entered b es) (entry b 1 ∷ e ∷ es)) ≡ cond p (e ∷ entered b es) (entry b 1 ∷ e ∷ es)
-    go p true g h k = let z : ◌≡◌ {A = ℕ} 0 1 = cc in absurd (omega arith)
+    go p true g h k = absurd cc
     go true false g h k = cond-false (eqb e.boat.0 b) (entry e.boat.0 (max e.floor.0 1) ∷ entered b es) (e ∷ heard b 1 (entered b es)) g ∙ ap (λ l. e ∷ l) (k h)
     go false false g h k = cond-true (eqb b b) (entry b 1 ∷ e ∷ es) (entry b 1 ∷ heard b 1 (e ∷ es)) (eq-eqb b b refl)
 

@@ -2,16 +2,12 @@
 use messages::Message;
 use records::Record;
 
-// The record that it appends, and the message that it sends once that is synced: one or none of each.
-#[derive(Clone, Copy)]
-pub struct Step {
+// The record that it appends, if any, and what it sends once that is synced: a message or none.
+#[derive(Clone, Copy, Default, Drop)]
+pub struct Step<M = Option<Message>> {
     pub record: Option<Record>,
-    pub message: Option<Message>,
+    pub messages: M,
 }
 
-// The record that a level said to all appends, and a message to each boat of the list.
-#[derive(Drop)]
-pub struct Call {
-    pub record: Option<Record>,
-    pub messages: Vec<Message>,
-}
+// The same with a message to each boat of a list.
+pub type Call = Step<Vec<Message>>;

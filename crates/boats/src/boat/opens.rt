@@ -5,9 +5,9 @@ ghost use Rattle.records.specs.Records.{written};
 ghost use Rattle.boats.specs.Openings.{replaying, Rebuilt, Opens};
 ghost use Rattle.stations.specs.Steps.{filed};
 
-use super::Boat;
-use crate::survey::look_through;
-use levels::numbers::{BoatId, Level, Program};
+use super::{Boat, Memory};
+use crate::survey::Survey;
+use levels::numbers::{BoatId, Program};
 use levels::refusals::Refusal;
 use levels::standing::Standing;
 use logbooks::log::Logbook;
@@ -25,7 +25,7 @@ fn replay(log: &mut Logbook, record: Record) -> Result<(), Refusal>
     }
 }
 
-// The words of a journal.
+// The words of a journal. The harbour has such a loop too: one for both would be given its step as a closure, whose contract is longer than the loop.
 fn rebuild(heap: Global, journal: &[Record]) -> Result<Logbook, Refusal>
     ensures { Rebuilt (filed journal.now) result }
 {
@@ -46,29 +46,25 @@ impl Boat {
     ) -> Result<(Boat, Step), Refusal>
         ensures { Opens number.0 program.0 (filed journal.now) result }
     {
-        if number.0 == 0 {
+        if number == BoatId::HARBOUR {
             return Err(Refusal::Invalid);
         }
-        let found = look_through(program, journal);
-        if !found.readable {
-            return Err(Refusal::Malformed);
-        }
-        if program.0 < found.floor {
+        let found = Survey::look_through(program, journal)?;
+        if program < found.floor {
             return Err(Refusal::BelowFloor);
         }
-        let log = rebuild(heap, journal)?;
         let standing = Standing {
             program,
-            floor: Program(found.floor),
-            level: Level(found.level),
+            floor: found.floor,
+            level: found.level,
         };
-        let boat = Boat {
-            number,
+        let memory = Memory {
             standing,
             answered: false,
             used: found.used,
-            log,
+            log: rebuild(heap, journal)?,
         };
+        let boat = Boat { number, memory };
         let step = boat.tick();
         Ok((boat, step))
     }

@@ -21,27 +21,27 @@ impl Boat {
     pub fn standing(&self) -> Standing
         ensures { view result ≡ (memory self.now).standing }
     {
-        self.standing
+        self.memory.standing
     }
 
     // Was its promise answered?
     pub fn answered(&self) -> bool
         ensures { result ≡ (memory self.now).answered }
     {
-        self.answered
+        self.memory.answered
     }
 
     // The numbers of its own words are used up to this one.
     pub fn used(&self) -> u32
         ensures { result ≡ (memory self.now).used }
     {
-        self.used
+        self.memory.used
     }
 
     // The words that it keeps.
     pub fn log(&self) -> &Logbook
         ensures { logs.log result.now ≡ (memory self.now).log }
     {
-        &self.log
+        &self.memory.log
     }
 }

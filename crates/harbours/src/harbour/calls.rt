@@ -1,7 +1,5 @@
 // What the harbour does with each input. What is refused changes nothing.
 ghost use Rattle.std.specs.Prelude.{◌≡◌, map, IfOk};
-ghost use Rattle.std.specs.Option.{unwrap_or};
-ghost use Rattle.ledger.specs.Entries.{floor_of};
 ghost use Rattle.ledger.specs.Ledgers as ledgers;
 ghost use Rattle.levels.specs.Verdicts.{Performs};
 ghost use Rattle.messages.specs.Messages.{letter, telling};
@@ -21,9 +19,6 @@ use stations::step::{Call, Step};
 use stations::unheard::Unheard;
 use std::alloc::{AllocError, Global};
 
-// The harbour's number.
-const HARBOUR: BoatId = BoatId(0);
-
 // A level to each boat of a list.
 fn tell_each(heap: Global, boats: &[Entry], level: Level) -> Result<Vec<Message>, AllocError>
     ensures { IfOk result (λ v. map letter v.items ≡ map (spec.allowing level.0) boats.now) }
@@ -31,7 +26,7 @@ fn tell_each(heap: Global, boats: &[Entry], level: Level) -> Result<Vec<Message>
     let mut messages = Vec::new(heap);
     for listed in boats {
         messages.push(Message {
-            from: HARBOUR,
+            from: BoatId::HARBOUR,
             to: listed.boat,
             number: 0,
             body: Body::Allowed(level),
@@ -48,33 +43,18 @@ impl Harbour {
         &self.ledger
     }
 
-    // The highest floor that was heard of a boat, 0 where it is not on the list.
-    fn known(&self, boat: BoatId) -> u32
-        ensures { result ≡ unwrap_or (floor_of boat.0 (book_of self.now).list) 0 }
-    {
-        match self.ledger.floor_of(boat) {
-            Some(floor) => floor.0,
-            None => 0,
-        }
-    }
-
     // Puts a boat on the list.
     pub fn list(&mut self, boat: BoatId) -> Result<Step, Refusal>
         ensures { Performs deed_of (spec.listing (book_of self.old) boat.0) result (book_of self.old) (book_of self.new) }
     {
-        let known = self.ledger.floor_of(boat).is_some();
+        let new = self.ledger.floor_of(boat).is_none();
         self.ledger.list(boat)?;
-        let record = if known {
-            None
-        } else {
-            Some(Record::Listed {
+        Ok(Step {
+            record: new.then_some(Record::Listed {
                 boat,
                 floor: Program(1),
-            })
-        };
-        Ok(Step {
-            record,
-            message: None,
+            }),
+            messages: None,
         })
     }
 
@@ -82,21 +62,11 @@ impl Harbour {
     fn confirm(&mut self, from: BoatId, floor: Program) -> Result<Step, Refusal>
         ensures { Performs deed_of (spec.confirmed (book_of self.old) from.0 floor.0 (ledgers.hearing (book_of self.old) from.0 floor.0)) result (book_of self.old) (book_of self.new) }
     {
-        let known = self.known(from);
+        let higher = self.ledger.floor_of(from) < Some(floor);
         let answer = self.ledger.hear(from, floor)?;
-        let record = if known < floor.0 {
-            Some(Record::Listed { boat: from, floor })
-        } else {
-            None
-        };
         Ok(Step {
-            record,
-            message: Some(Message {
-                from: HARBOUR,
-                to: from,
-                number: 0,
-                body: Body::Heard(answer),
-            }),
+            record: higher.then_some(Record::Listed { boat: from, floor }),
+            messages: Some(Message::notice(BoatId::HARBOUR, from, Body::Heard(answer))),
         })
     }
 
@@ -107,33 +77,18 @@ impl Harbour {
         if self.ledger.floor_of(from).is_none() {
             return Err(Refusal::NotListed);
         }
-        Ok(Step {
-            record: None,
-            message: None,
-        })
+        Ok(Step::default())
     }
 
     // What it does with a message that is for it: promises and what was taken come from boats.
-    fn judge(&mut self, from: BoatId, body: Body) -> Result<Step, Refusal>
-        ensures { Performs deed_of (spec.judging (book_of self.old) from.0 (telling body)) result (book_of self.old) (book_of self.new) }
+    fn judge(&mut self, message: Message) -> Result<Step, Refusal>
+        ensures { Performs deed_of (spec.judging (book_of self.old) message.from.0 (telling message.body)) result (book_of self.old) (book_of self.new) }
     {
-        let harbour = from.0 == 0;
+        let Message { from, body, .. } = message;
         match body {
-            Body::Promise(floor) => {
-                if harbour {
-                    return Err(Refusal::Malformed);
-                }
-                self.confirm(from, floor)
-            }
-            Body::Taken(_) => {
-                if harbour {
-                    return Err(Refusal::Malformed);
-                }
-                self.acknowledge(from)
-            }
-            Body::Word(_) => Err(Refusal::Malformed),
-            Body::Heard(_) => Err(Refusal::Malformed),
-            Body::Allowed(_) => Err(Refusal::Malformed),
+            Body::Promise(floor) if from != BoatId::HARBOUR => self.confirm(from, floor),
+            Body::Taken(_) if from != BoatId::HARBOUR => self.acknowledge(from),
+            _ => Err(Refusal::Malformed),
         }
     }
 
@@ -141,10 +96,10 @@ impl Harbour {
     pub fn hear(&mut self, message: Message) -> Result<Step, Unheard>
         ensures { Hears deed_of (spec.hearing (book_of self.old) (letter message)) result (book_of self.old) (book_of self.new) }
     {
-        if !accepts(HARBOUR, message.to) {
+        if !accepts(BoatId::HARBOUR, message.to) {
             return Err(Unheard::Elsewhere);
         }
-        Ok(self.judge(message.from, message.body)?)
+        Ok(self.judge(message)?)
     }
 
     // Says a level that all of the list have promised, to each of them.
@@ -153,12 +108,11 @@ impl Harbour {
     {
         self.ledger.may_say(level)?;
         let messages = tell_each(heap, self.ledger.boats(), level)?;
-        let record = if self.ledger.said() < level {
-            Some(Record::Allowed(level))
-        } else {
-            None
-        };
+        let higher = self.ledger.said() < level;
         self.ledger.say(level)?;
-        Ok(Call { record, messages })
+        Ok(Step {
+            record: higher.then_some(Record::Allowed(level)),
+            messages,
+        })
     }
 }

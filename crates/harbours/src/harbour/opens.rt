@@ -9,6 +9,7 @@ ghost use Rattle.stations.specs.Steps.{filed};
 
 use super::Harbour;
 use ledger::book::Ledger;
+use levels::numbers::BoatId;
 use levels::refusals::Refusal;
 use records::Record;
 use std::alloc::Global;
@@ -18,7 +19,7 @@ fn is_harbours(record: Record) -> bool
     ensures { result ≡ journals.harbour_reads (written «record») }
 {
     match record {
-        Record::Listed { boat, .. } => boat.0 >= 1,
+        Record::Listed { boat, .. } => boat != BoatId::HARBOUR,
         Record::Allowed(_) => true,
         _ => false,
     }
@@ -28,12 +29,7 @@ fn is_harbours(record: Record) -> bool
 fn all_harbours(journal: &[Record]) -> bool
     ensures { result ≡ journals.every journals.harbour_reads (filed journal.now) }
 {
-    for record in journal {
-        if !is_harbours(*record) {
-            return false;
-        }
-    }
-    true
+    journal.iter().all(|record| is_harbours(*record))
 }
 
 // One record more.
@@ -50,7 +46,7 @@ fn enlist(ledger: &mut Ledger, record: Record) -> Result<(), Refusal>
     }
 }
 
-// The list and the level of a journal whose records are all the harbour's.
+// The list and the level of a journal whose records are all the harbour's. Boats have such a loop too: one for both would be given its step as a closure, whose contract is longer than the loop.
 fn enlist_all(heap: Global, journal: &[Record]) -> Result<Ledger, Refusal>
     requires { journals.every journals.harbour_reads (filed journal.now) ≡ true }
     ensures { Reenlisted (filed journal.now) result }
