@@ -7,7 +7,7 @@ use Rattle.fleet.specs.declared.fleet.Vessel.{Vessel}
 use Rattle.fleet.specs.declared.fleet.Fleet.{Fleet}
 use Rattle.logbooks.specs.declared.log.Logbook.{Logbook}
 use Rattle.logbooks.specs.Logs.{log, empty}
-use Rattle.ledger.specs.declared.book.Entry.{Entry}
+use Rattle.ledger.specs.Entries.{Entry}
 use Rattle.world.specs.declared.messages.Notice.{Notice}
 use Rattle.world.specs.Worlds.{allowing, to_each, fresh, place_of, state_at, log_at}
 use Rattle.fleet.specs.Fleets.{world, state}

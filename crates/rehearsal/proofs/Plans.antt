@@ -3,7 +3,7 @@
 use Rattle.std.proofs.Common.{◌≡◌, ℕ, ◌+◌, ◌-◌, ◌*◌, ◌<◌, ◌≤◌, Bool, true, ◌&&◌, ltb, ◌⊎◌, List, [], ◌∷◌, ◌++◌, length, get_or, take, drop, is_ok, Ok, Err, vec_items, Result, sym, refl, ap, ◌∙◌, subst, inl, inr, append_assoc, append-nil, arith}
 use Rattle.std.proofs.lemmas.List.{length-map, get_or-map, take_more, at_drop_more}
 use Rattle.std.proofs.lemmas.Bool.{cond_both}
-use Rattle.ledger.specs.declared.book.Entry.{Entry}
+use Rattle.ledger.specs.Entries.{Entry}
 use Rattle.levels.specs.Verdicts.{Verdict, Number, Bad, Memory, Due}
 use Rattle.levels.specs.Standings.{first}
 use Rattle.world.specs.declared.events.Event.{Event}

@@ -1,9 +1,8 @@
 use Rattle.std.proofs.Common.{◌≡◌, ℕ, ◌+◌, ◌<◌, ◌≤◌, Bool, ◌||◌, List, get_or, drop, sym, ap, ◌∙◌, arith}
 use Rattle.std.proofs.lemmas.List.{at_drop_more, at_drop_all}
 use Rattle.std.proofs.lemmas.Bool.{lt-ltb, le-ltb, or_left}
-use Rattle.ledger.specs.declared.book.Entry.{Entry}
 use Rattle.levels.specs.Rules.{Boat}
-use Rattle.ledger.specs.Entries.{entry}
+use Rattle.ledger.specs.Entries.{Entry, entry}
 use Rattle.ledger.specs.Ledgers.{Book}
 use Rattle.world.specs.Worlds.{World}
 use Rattle.fleet.specs.Fleets.{world}

@@ -1,8 +1,7 @@
 use Rattle.std.proofs.Common.{◌+◌, ltb, get_or, drop, arith}
 use Rattle.std.proofs.lemmas.List.{at_drop_more, at_drop_all}
 use Rattle.std.proofs.lemmas.Bool.{lt-ltb, le-ltb, cond-true, cond-false}
-use Rattle.ledger.specs.declared.book.Entry.{Entry}
-use Rattle.ledger.specs.Entries.{entry}
+use Rattle.ledger.specs.Entries.{Entry, entry}
 use Rattle.world.specs.Rising.{behind}
 use Rattle.rehearsal.proofs.rehearsal.rising.behind.Goals as goal
 use Rattle.rehearsal.proofs.rehearsal.rising.behind.Goals.{then-listed-level, else-listed-level}

@@ -1,7 +1,6 @@
 use Rattle.std.proofs.Common.{ℕ, ◌+◌, List, [], ◌∷◌, drop, vec_items, arith}
 use Rattle.std.proofs.lemmas.List.{at_drop_more, at_drop_all}
-use Rattle.ledger.specs.declared.book.Entry.{Entry}
-use Rattle.ledger.specs.Entries.{entry}
+use Rattle.ledger.specs.Entries.{Entry, entry}
 use Rattle.world.specs.declared.events.Event.{Event}
 use Rattle.world.specs.declared.events.Event.TheVariants.{BringNotice}
 use Rattle.world.specs.Rising.{bringing}
