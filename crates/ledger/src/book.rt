@@ -46,7 +46,8 @@ impl Ledger {
 
     // The boats of the list, by rising numbers, each with its floor.
     pub fn boats(&self) -> &BTreeMap<BoatId, Program>
-        ensures { listed result.now ≡ (book self.now).list }
+        ensures list { listed result.now ≡ (book self.now).list }
+        ensures few { btree_map_len result.now ≤ MOST }
     {
         &self.floors
     }
