@@ -1,12 +1,12 @@
 -- The harbour's journal as it lies in its file.
 -- Assumes nothing.
-use Rattle.std.proofs.Common.{◌≡◌, ℕ, suc, ◌+◌, ◌<◌, ◌≤◌, max, Bool, true, false, cond, not, ◌&&◌, eqb, ltb, leb, List, [], ◌∷◌, length, get_or, take, is_some, Ok, Err, vec_items, sym, refl, ap, ◌∙◌, subst, le_refl, arith}
+use Rattle.std.proofs.Common.{◌≡◌, ℕ, suc, ◌+◌, ◌<◌, ◌≤◌, max, Bool, true, false, cond, not, ◌&&◌, eqb, ltb, leb, List, [], ◌∷◌, length, get_or, take, is_some, Ok, Err, sym, refl, ap, ◌∙◌, subst, le_refl, arith}
 use Rattle.std.proofs.lemmas.Bool.{and_parts, le-leb, lt-leb, leb-true, cond-false}
+use Rattle.std.proofs.lemmas.List.{length-map}
 use Rattle.std.proofs.lemmas.Bool.Decides.{nat_tests}
-use Rattle.ledger.specs.declared.book.Entry.{Entry}
 use Rattle.ledger.specs.declared.book.Ledger.{Ledger}
-use Rattle.ledger.specs.Entries.{entry, floor_of, entered, admitted, heard}
-use Rattle.ledger.specs.Ledgers.{Book, book, promised, levelled}
+use Rattle.ledger.specs.Entries.{Entry, entry, floor_of, entered, admitted, heard}
+use Rattle.ledger.specs.Ledgers.{Book, book, entries, entry_of, promised, levelled}
 use Rattle.levels.specs.Verdicts.{Verdict, Number, Bad, Memory, Due}
 use Rattle.records.specs.declared.Record.{Record}
 use Rattle.records.specs.Records.{Written, written, floor_is, level_is, word_is, boat_is, used_to}
@@ -105,7 +105,7 @@ barred_at xs i r x v a h g e d =
 
 pub fits_list : (l : Ledger) (rs : List Written) → book l ≡ recalled rs → leb (length (journal.boats rs)) 4096 ≡ true
 fits_list l rs e =
-    let m = l.boats.ok.0 in
-    let f : length (journal.boats rs) ≡ length (vec_items l.boats) = sym (ap (λ (x : Book). length x.list) e) in
+    let m = length-map l.floors.entries entry_of in
+    let f : length (journal.boats rs) ≡ length (entries l) = sym (ap (λ (x : Book). length x.list) e) in
     let few = l.few in
     le-leb _ _ (omega (arith, m, f, few))

@@ -1,10 +1,13 @@
 -- What listing and hearing make of what the harbour knows of each boat.
 -- Assumes nothing.
-use Rattle.std.proofs.Common.{◌≡◌, ℕ, ◌<◌, ◌≤◌, max, Bool, true, false, cond, ◌&&◌, eqb, ltb, ◌⊎◌, List, [], ◌∷◌, is_some, Some, None, Option, sym, refl, ap, ◌∙◌, inl, inr, arith}
-use Rattle.std.proofs.lemmas.Bool.{cond-true, cond-false, eq-eqb, ne_eqb, ltb-true, ltb-false, le-ltb, and_parts}
+use Rattle.std.proofs.Common.{◌≡◌, ℕ, ◌<◌, ◌≤◌, max, Bool, true, false, cond, not, ◌&&◌, eqb, ltb, leb, ◌⊎◌, List, [], ◌∷◌, length, is_some, Some, None, Ok, Err, Option, Result, sym, refl, ap, ◌∙◌, inl, inr, arith}
+use Rattle.std.proofs.lemmas.Bool.{cond-true, cond-false, eq-eqb, ne_eqb, lt-ltb, ltb-true, ltb-false, le-ltb, and_from, and_parts}
 use Rattle.std.proofs.lemmas.Bool.Decides.{nat_tests}
-use Rattle.ledger.specs.declared.book.Entry.{Entry}
-use Rattle.ledger.specs.Entries.{entry, above, ascending, floor_of, entered, heard, lacking, numbers_of}
+use Rattle.levels.specs.declared.numbers.Program.{Program}
+use Rattle.levels.specs.declared.refusals.Refusal.{Refusal}
+use Rattle.levels.specs.Verdicts.{Verdict, Number, Replies}
+use Rattle.ledger.specs.Entries.{Entry, entry, above, ascending, floor_of, entered, admitted, heard, lacking, numbers_of}
+use Rattle.ledger.specs.Ledgers.{Book, floor_number, answering, hearing, admitting, promised, restoring}
 
 pub both : (b : Bool) → (b ≡ true) ⊎ (b ≡ false)
 both true = inl refl
@@ -58,6 +61,34 @@ floor_entered i b (x ∷ es) =
         | inr u ↦ simp (t, u) ih
       ]
       | inr t ↦ simp t
+    ]
+
+-- and it leaves the order
+above_entered : (c b : ℕ) (es : List Entry) → c < b → above c es ≡ true → above c (entered b es) ≡ true
+above_entered c b [] l h = lt-ltb _ _ l
+above_entered c b (e ∷ es) l h =
+    elim (both (ltb e.boat.0 b)) [ inl t ↦ ap (above c) (cond-true _ _ _ t) ∙ h | inr t ↦ ap (above c) (cond-false _ _ _ t) ∙ lt-ltb _ _ l ]
+
+pub ascending_entered : (b : ℕ) (es : List Entry) → floor_of b es ≡ None → ascending es ≡ true → ascending (entered b es) ≡ true
+ascending_entered b [] n a = refl
+ascending_entered b (e ∷ es) n a =
+    let p : (above e.boat.0 es ≡ true) × (ascending es ≡ true) = and_parts (above e.boat.0 es) (ascending es) a in
+    let d : eqb e.boat.0 b ≡ false = apart (eqb e.boat.0 b) e.floor.0 (floor_of b es) n in
+    elim (both (ltb e.boat.0 b)) [
+      | inl t ↦ ap ascending (cond-true _ _ _ t) ∙ and_from _ _ (above_entered e.boat.0 b es (grind (arith, nat_tests)) p.0) (ascending_entered b es (sym (cond-false _ _ _ d) ∙ n) p.1)
+      | inr t ↦ ap ascending (cond-false _ _ _ t) ∙ and_from _ _ (let l : ltb b e.boat.0 ≡ true = grind (arith, nat_tests) in l) a
+    ]
+  where
+    apart : (t : Bool) (x : ℕ) (o : Option ℕ) → cond t (Some x) o ≡ None → t ≡ false
+    apart true x o h = cc
+    apart false x o h = refl
+
+-- a boat that came on the list is on it
+pub admitted_there : (b : ℕ) (es : List Entry) → is_some (floor_of b (admitted b es)) ≡ true
+admitted_there b es =
+    elim (both (is_some (floor_of b es))) [
+      | inl t ↦ ap (λ l. is_some (floor_of b l)) (cond-true _ _ _ t) ∙ t
+      | inr t ↦ ap (λ l. is_some (floor_of b l)) (cond-false _ _ _ t) ∙ ap is_some (floor_entered b b es ∙ cond-true _ _ _ (eq-eqb b b refl))
     ]
 
 -- where nobody lacks a level, each on the list has promised it
@@ -133,3 +164,31 @@ listed_same j (x ∷ xs) (y ∷ ys) q =
     go : (t : Bool) → is_some (floor_of j xs) ≡ is_some (floor_of j ys) → is_some (cond t (Some x.floor.0) (floor_of j xs)) ≡ is_some (cond t (Some y.floor.0) (floor_of j ys))
     go true s = refl
     go false s = s
+
+-- of a boat that is on the list every promise is heard
+pub hears_it : (y z : Book) (b f : ℕ) (r : Result Program Refusal) → is_some (floor_of b y.list) ≡ true → Replies floor_number (hearing y b f) r y z → z ≡ record { list = heard b f y.list; said = y.said }
+hears_it y z b f r h p = go (floor_of b y.list) r h p
+  where
+    left : Result (ℕ × Book) Verdict → Book
+    left (Ok q) = q.1
+    left (Err e) = y
+
+    go : (o : Option ℕ) (r : Result Program Refusal) → is_some o ≡ true → Replies floor_number (answering y b f o) r y z → z ≡ record { list = heard b f y.list; said = y.said }
+    go None r h p = let q : ◌≡◌ {A = ℕ} 0 1 = cc in absurd (omega arith)
+    go (Some g) (Ok v) h p = sym (ap left p)
+    go (Some g) (Err e) h p = let k = p.0 in let q : ◌≡◌ {A = ℕ} 0 1 = cc in absurd (omega arith)
+
+-- the list that a boat comes back to
+pub restored_is : (x y z : Book) (b f : ℕ) (r : Result Program Refusal) → (b ≡ 0 → ⊥) → admitting x b ≡ Ok y → Replies floor_number (hearing y b f) r y z → restoring x b f ≡ Ok z
+restored_is x y z b f r n e p =
+    let F : Book → Result Book Verdict = λ a. Ok a in
+    cond-false _ _ _ (ne_eqb b 0 n) ∙ ap (promised b f) e ∙ sym (ap F (hears_it y z b f r (there x y b e) p))
+  where
+    there : (x y : Book) (b : ℕ) → admitting x b ≡ Ok y → is_some (floor_of b y.list) ≡ true
+    there x y b e = go (not (is_some (floor_of b x.list)) && leb 4096 (length x.list)) e
+      where
+        go : (t : Bool) → cond t (Err (Number 6)) (Ok (record { list = admitted b x.list; said = x.said })) ≡ Ok y → is_some (floor_of b y.list) ≡ true
+        go true h = let q : ◌≡◌ {A = ℕ} 0 1 = cc in absurd (omega arith)
+        go false h =
+            let q : record { list = admitted b x.list; said = x.said } ≡ y = cc in
+            ap (λ (a : Book). is_some (floor_of b a.list)) (sym q) ∙ admitted_there b x.list

@@ -1,7 +1,13 @@
 -- The harbour's list: boats by rising numbers, with the highest floor that was heard of each.
 -- Assumes nothing.
-use Rattle.std.specs.Prelude.{◌≡◌, ℕ, ◌<◌, ◌≤◌, max, Bool, true, cond, ◌&&◌, List, [], ◌∷◌, map, length, is_some, Some, None, Ok, Err, Option, Result, ◌==◌, nat_lt, slice_index_or}
-use Rattle.ledger.specs.declared.book.Entry.{Entry}
+use Rattle.std.specs.Prelude.{ℕ, max, Bool, true, cond, ◌&&◌, List, [], ◌∷◌, map, is_some, Some, None, Option, ◌==◌, nat_lt}
+use Rattle.levels.specs.declared.numbers.BoatId.{BoatId}
+use Rattle.levels.specs.declared.numbers.Program.{Program}
+
+-- a boat of the list, and the highest floor that the harbour has heard it promise
+pub record Entry : Type 0 where
+  pub boat : BoatId
+  pub floor : Program
 
 -- the entry of a boat and a floor
 abbrev pub entry : ℕ → ℕ → Entry
@@ -43,15 +49,3 @@ lacking k (e ∷ es) = cond (nat_lt e.floor.0 k) (Some e.boat.0) (lacking k es)
 -- the numbers of its boats
 abbrev pub numbers_of : List Entry → List ℕ
 numbers_of = map (λ (e : Entry). e.boat.0)
-
--- the boat and the floor at a place
-abbrev pub boat_at : List Entry → ℕ → ℕ
-boat_at es i = (slice_index_or es i (entry 0 0)).boat.0
-
-abbrev pub floor_at : List Entry → ℕ → ℕ
-floor_at es i = (slice_index_or es i (entry 0 0)).floor.0
-
--- where a search found a boat; or that it is not there, and where it would stand
-abbrev pub Placed : List Entry → ℕ → Result ℕ ℕ → Type 0
-Placed es b (Ok i) = (i < length es) × (boat_at es i ≡ b) × ((k : ℕ) → k < i → boat_at es k < b)
-Placed es b (Err i) = (i ≤ length es) × ((k : ℕ) → k < i → boat_at es k < b) × (i < length es → b < boat_at es i)

@@ -1,11 +1,11 @@
 -- What each call makes of the harbour's ledger.
 -- Assumes nothing.
-use Rattle.std.specs.Prelude.{ℕ, max, Bool, cond, not, ◌&&◌, ◌||◌, List, [], length, is_some, Some, None, Ok, Err, vec_items, Option, Result, ◌==◌, nat_le, nat_lt}
+use Rattle.std.specs.Prelude.{ℕ, max, Bool, cond, not, ◌&&◌, ◌||◌, List, [], map, length, is_some, Some, None, Ok, Err, Option, Result, ◌==◌, nat_le, nat_lt}
+use Rattle.std.specs.BTreeMap.{BTreeMap}
 use Rattle.levels.specs.declared.numbers.BoatId.{BoatId}
 use Rattle.levels.specs.declared.numbers.Program.{Program}
-use Rattle.ledger.specs.declared.book.Entry.{Entry}
 use Rattle.ledger.specs.declared.book.Ledger.{Ledger}
-use Rattle.ledger.specs.Entries.{floor_of, entered, admitted, heard, lacking}
+use Rattle.ledger.specs.Entries.{Entry, floor_of, entered, admitted, heard, lacking}
 use Rattle.levels.specs.Verdicts.{Verdict, Number, Bad}
 
 -- what a ledger holds
@@ -13,8 +13,15 @@ pub record Book : Type 0 where
   pub list : List Entry
   pub said : ℕ
 
+-- a map's list: its pairs, by the keys' order
+abbrev pub entry_of : BoatId × Program → Entry
+entry_of p = record { boat = p.0; floor = p.1 }
+
+abbrev pub listed : BTreeMap BoatId Program → List Entry
+listed m = map entry_of m.entries
+
 abbrev pub entries : Ledger → List Entry
-entries l = vec_items l.boats
+entries l = listed l.floors
 
 abbrev pub book : Ledger → Book
 book l = record { list = entries l; said = l.said.0 }

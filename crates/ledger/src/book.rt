@@ -1,26 +1,54 @@
 // The harbour's ledger.
-ghost use Rattle.std.specs.Prelude.{◌≡◌, ◌≤◌, true, vec_len};
-ghost use Rattle.ledger.specs.Entries.{ascending};
+ghost use Rattle.std.specs.Prelude.{◌≤◌};
+ghost use Rattle.std.specs.BTreeMap.{btree_map_len};
+ghost use Rattle.ledger.specs.declared.book.TheConstants.{MOST};
 
 use levels::numbers::{BoatId, Level, Program};
+use std::alloc::Global;
+use std::collections::BTreeMap;
 
 mod calls;
-mod reads;
+mod restores;
 mod says;
 
-// A boat of the list, and the highest floor that the harbour has heard it promise.
-#[derive(Clone, Copy)]
-pub struct Entry {
-    pub boat: BoatId,
-    pub floor: Program,
-}
+// How many boats the list takes.
+const MOST: usize = 4096;
 
-// The list, by rising numbers of boats, and the highest level that was said.
+// The list: of each boat, by rising numbers, the highest floor that the harbour has heard it promise; and the highest level that was said.
 #[derive(Drop)]
 pub struct Ledger {
-    boats: Vec<Entry>,
+    floors: BTreeMap<BoatId, Program>,
     said: Level,
-    ghost sorted: { ascending boats.items ≡ true },
-    ghost few: { vec_len boats ≤ 4096 },
+    ghost few: { btree_map_len floors ≤ MOST },
     ghost begun: { 1 ≤ said.0 },
+}
+
+impl Ledger {
+    ghost use Rattle.std.specs.Prelude.{◌≡◌};
+    ghost use Rattle.ledger.specs.Ledgers.{book, blank, listed};
+
+    // A ledger with nobody on its list, and level 1 said.
+    pub fn new(heap: Global) -> Ledger
+        ensures { book result ≡ blank }
+    {
+        Ledger {
+            floors: BTreeMap::new(heap),
+            said: Level(1),
+        }
+    }
+
+    // The highest level that was said.
+    pub fn said(&self) -> Level
+        ensures { result.0 ≡ (book self.now).said }
+    {
+        self.said
+    }
+
+    // The boats of the list, by rising numbers, each with its floor.
+    pub fn boats(&self) -> &BTreeMap<BoatId, Program>
+        ensures list { listed result.now ≡ (book self.now).list }
+        ensures few { btree_map_len result.now ≤ MOST }
+    {
+        &self.floors
+    }
 }

@@ -4,8 +4,7 @@ use Rattle.std.proofs.Common.{◌≡◌, ℕ, suc, ◌<◌, ◌≤◌, max, Bool
 use Rattle.std.proofs.lemmas.Bool.{cond_both, cond-true, cond-false, eq-eqb, eqb-true, ltb-false, le-leb, leb-false, true≢false}
 use Rattle.std.proofs.lemmas.Bool.Decides.{nat_tests}
 use Rattle.levels.specs.Verdicts.{Verdict, Number, Bad}
-use Rattle.ledger.specs.declared.book.Entry.{Entry}
-use Rattle.ledger.specs.Entries.{entry, floor_of, entered, heard, admitted, lacking}
+use Rattle.ledger.specs.Entries.{Entry, entry, floor_of, entered, heard, admitted, lacking}
 use Rattle.ledger.specs.Ledgers as ledger
 use Rattle.ledger.specs.Ledgers.{Book, answering, unpromised}
 use Rattle.ledger.proofs.Books.{both, none_is, none_lacks}

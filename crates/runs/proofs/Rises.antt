@@ -5,12 +5,10 @@ use mathlib.Core.List.{Memᴰ}
 use Rattle.std.proofs.lemmas.Bool.{cond_both, cond-true, cond-false, eq-eqb, ne_eqb, eqb-true, ltb-true, ltb-false, lt-ltb, leb-true, and_parts, and_from, false≢true}
 use Rattle.std.proofs.lemmas.Bool.Decides.{nat_tests}
 use Rattle.levels.specs.Verdicts.{Verdict, Number, Bad}
-use Rattle.ledger.specs.declared.book.Entry.{Entry}
-use Rattle.ledger.specs.Entries.{ascending, floor_of, entered, heard, admitted, lacking, numbers_of}
+use Rattle.ledger.specs.Entries.{Entry, ascending, floor_of, entered, heard, admitted, lacking, numbers_of}
 use Rattle.ledger.specs.Ledgers as ledger
 use Rattle.ledger.specs.Ledgers.{Book, answering, unpromised}
-use Rattle.ledger.proofs.Books.{both, numbers_heard, listed_same, ascending_heard, lacks_none, known_all}
-use Rattle.ledger.proofs.Searches.{ascending_entered}
+use Rattle.ledger.proofs.Books.{both, numbers_heard, listed_same, ascending_heard, lacks_none, known_all, ascending_entered}
 use Rattle.messages.specs.Messages.{heard as heard_is, has_it, Letter, notice}
 use Rattle.records.specs.Records.{Written, floor_is, level_is, word_is, boat_is, used_to}
 use Rattle.stations.specs.Journals as journal

@@ -4,8 +4,7 @@ use Rattle.std.specs.Prelude.{ℕ, cond, List, [], ◌∷◌, map, length, is_so
 use Rattle.std.specs.Option.{unwrap_or}
 use Rattle.levels.specs.Verdicts.{Verdict, Number}
 use Rattle.levels.specs.Rules.{accepts}
-use Rattle.ledger.specs.declared.book.Entry.{Entry}
-use Rattle.ledger.specs.Entries.{floor_of}
+use Rattle.ledger.specs.Entries.{Entry, floor_of}
 use Rattle.ledger.specs.Ledgers as ledger
 use Rattle.ledger.specs.Ledgers.{Book}
 use Rattle.messages.specs.Messages.{Telling, word, promise, heard, level, has_it, Letter, notice}

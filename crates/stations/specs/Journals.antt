@@ -1,8 +1,7 @@
 -- What a station knows is a function of its journal: the list of its records, the newest first.
 -- Assumes nothing.
 use Rattle.std.specs.Prelude.{ℕ, max, Bool, true, false, cond, ◌&&◌, List, [], ◌∷◌, Some, None, Option, ◌==◌, nat_le}
-use Rattle.ledger.specs.declared.book.Entry.{Entry}
-use Rattle.ledger.specs.Entries.{admitted, heard}
+use Rattle.ledger.specs.Entries.{Entry, admitted, heard}
 use Rattle.levels.specs.Rules.{reads}
 use Rattle.forms.specs.Meaning.{form_of, ship_of}
 use Rattle.logbooks.specs.Slots.{Kept}

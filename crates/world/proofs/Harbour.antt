@@ -5,11 +5,10 @@ use mathlib.Core.Path.{fun_ext}
 use mathlib.Core.List.Memᴰ
 use mathlib.Core.List.{Memᴰ}
 use Rattle.std.proofs.lemmas.Bool.{leb-true, ltb-false, eqb-true, eq-eqb, cond-true, cond-false, cond_both}
-use Rattle.ledger.specs.declared.book.Entry.{Entry}
 use Rattle.levels.specs.Verdicts.{Verdict, Number, Bad}
 use Rattle.levels.specs.Rules.{Boat}
 use Rattle.levels.specs.Standings.{raised}
-use Rattle.ledger.specs.Entries.{floor_of, ascending, entered, heard, lacking}
+use Rattle.ledger.specs.Entries.{Entry, floor_of, ascending, entered, heard, lacking}
 use Rattle.ledger.specs.Ledgers.{Book, answering, listing, unpromised}
 use Rattle.protocol.specs.Order.{numbers, higher}
 use Rattle.protocol.specs.Fleet.{Machine, put, Step, Later, now, next, hears, confirms, lists, decides, announces, learns, answers}
@@ -22,8 +21,7 @@ use Rattle.world.specs.Worlds.{World, BoatState, place_of, state_at, moored, not
 use Rattle.world.specs.Worlds as spec
 use Rattle.world.specs.Abstract.{boat_of, heard_of, machine_of, notice_of, abs}
 use Rattle.world.proofs.Abs.{higher_max, boat_moored}
-use Rattle.ledger.proofs.Searches.{ascending_entered}
-use Rattle.ledger.proofs.Books.{both, raised_by, floor_heard, ascending_heard, floor_entered, none_lacks, none_is, some_is}
+use Rattle.ledger.proofs.Books.{both, raised_by, floor_heard, ascending_heard, floor_entered, none_lacks, none_is, some_is, ascending_entered}
 use Rattle.world.proofs.Sent.{mem_back}
 use Rattle.world.proofs.Ruled.{Ruled, promises_of_numbers, Made, made_at, made_if, boat_is_lem, ruled_moored, ruled_noticed, same_machine}
 

@@ -7,10 +7,9 @@ use mathlib.Core.Logic.{∥∥₁_elim}
 use native.Mathlib.Nat.{ℕ_set}
 use Rattle.std.proofs.lemmas.List.{length-map}
 use Rattle.std.proofs.lemmas.Bool.{ltb-true, ltb-false, leb-true, le-leb, or_parts, or_from, and_parts, cond-true, cond-false, cases_eq}
-use Rattle.ledger.specs.declared.book.Entry.{Entry}
 use Rattle.levels.specs.Verdicts.{Number, Bad}
 use Rattle.levels.specs.Standings.{raised}
-use Rattle.ledger.specs.Entries.{floor_of, lacking, above, ascending}
+use Rattle.ledger.specs.Entries.{Entry, floor_of, lacking, above, ascending}
 use Rattle.ledger.specs.Ledgers.{unpromised}
 use Rattle.world.specs.declared.messages.Notice.{Notice}
 use Rattle.world.specs.declared.messages.Notice.TheVariants.{Taken}

@@ -2,8 +2,7 @@
 -- Assumes nothing.
 use Rattle.std.specs.Prelude.{◌≡◌, ℕ, ◌+◌, ◌*◌, ◌≤◌, Bool, true, false, cond, ◌&&◌, ◌||◌, List, [], ◌∷◌, ◌++◌, length, is_ok, Ok, Err, Result, ◌==◌, nat_lt}
 use Rattle.levels.specs.declared.numbers.BoatId.{BoatId}
-use Rattle.ledger.specs.declared.book.Entry.{Entry}
-use Rattle.ledger.specs.Entries.{numbers_of}
+use Rattle.ledger.specs.Entries.{Entry, numbers_of}
 use Rattle.levels.specs.Verdicts.{Verdict, Number, Bad}
 use Rattle.world.specs.declared.events.Event.{Event}
 use Rattle.world.specs.declared.events.Event.TheVariants.{Promise, Tick, Announce, BringNotice}

@@ -1,11 +1,10 @@
 -- The fleet as a world of values, and what each event makes of it.
 -- Assumes nothing.
 use Rattle.std.specs.Prelude.{ℕ, ◌+◌, ◌-◌, Bool, false, cond, not, ◌&&◌, ◌||◌, List, [], ◌∷◌, ◌++◌, map, length, replicate, is_some, Some, None, Ok, Err, Option, Result, ◌==◌, nat_le, nat_lt, slice_index_or, slice_set}
-use Rattle.ledger.specs.declared.book.Entry.{Entry}
 use Rattle.levels.specs.Verdicts.{Verdict, Number, Bad}
 use Rattle.levels.specs.Rules.{Boat, reads, say_form, keep_form}
 use Rattle.levels.specs.Standings.{first, renewed, gone_back, promised, raised}
-use Rattle.ledger.specs.Entries.{floor_of}
+use Rattle.ledger.specs.Entries.{Entry, floor_of}
 use Rattle.ledger.specs.Ledgers.{Book, blank, listing, hearing, saying}
 use Rattle.forms.specs.Meaning.{Meaning, Uttered, first as first_form, form_of, put, get}
 use Rattle.forms.specs.Said.{said}

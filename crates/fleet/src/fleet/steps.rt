@@ -1,6 +1,8 @@
 // What each event makes of the fleet. What is refused changes nothing.
-ghost use Rattle.std.specs.Prelude.{◌≡◌, ◌+◌, ◌<◌, ◌≤◌, ◌++◌, length, Ok, vec_len, vec_capacity};
+ghost use Rattle.std.specs.Prelude.{◌≡◌, ◌+◌, ◌<◌, ◌≤◌, ◌++◌, Ok, vec_len, vec_capacity};
+ghost use Rattle.std.specs.BTreeMap.{btree_map_len};
 ghost use Rattle.forms.specs.Said.{said};
+ghost use Rattle.ledger.specs.Ledgers.{listed};
 ghost use Rattle.levels.specs.Standings.{view};
 ghost use Rattle.logbooks.specs.Logs.{fallen};
 ghost use Rattle.levels.specs.Verdicts.{Does, Tries, told};
@@ -12,12 +14,13 @@ ghost use Rattle.world.specs.Worlds as spec;
 use super::{Berth, Fleet, Vessel};
 use forms::sent::Sent;
 use forms::word::Spoken;
-use ledger::book::{Entry, Ledger};
+use ledger::book::Ledger;
 use levels::numbers::{BoatId, Level, Program};
 use levels::refusals::Refusal;
 use levels::rules::reads;
 use levels::standing::Standing;
 use std::alloc::Global;
+use std::collections::BTreeMap;
 use world::events::Event;
 use world::messages::Notice;
 
@@ -25,15 +28,12 @@ use world::messages::Notice;
 const NUMBERS_END: u64 = 4294967296;
 
 // A level is told to each boat of a list.
-fn tell_each(notices: &mut Vec<Notice>, boats: &[Entry], level: Level)
-    requires { vec_len notices.old + length boats.now ≤ vec_capacity notices.old }
-    ensures { notices.new.items ≡ notices.old.items ++ spec.to_each level.0 boats.now }
+fn tell_each(notices: &mut Vec<Notice>, boats: &BTreeMap<BoatId, Program>, level: Level)
+    requires { vec_len notices.old + btree_map_len boats.now ≤ vec_capacity notices.old }
+    ensures { notices.new.items ≡ notices.old.items ++ spec.to_each level.0 (listed boats.now) }
 {
-    for listed in boats {
-        notices.push_reserved(Notice::Allowed {
-            to: listed.boat,
-            level,
-        });
+    for boat in boats.keys() {
+        notices.push_reserved(Notice::Allowed { to: *boat, level });
     }
 }
 

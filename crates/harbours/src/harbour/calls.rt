@@ -9,7 +9,7 @@ ghost use Rattle.stations.specs.Steps.{deed_of, call_of};
 ghost use Rattle.stations.specs.Unheards.{Hears};
 
 use super::Harbour;
-use ledger::book::{Entry, Ledger};
+use ledger::book::Ledger;
 use levels::numbers::{BoatId, Level, Program};
 use levels::refusals::Refusal;
 use levels::rules::accepts;
@@ -18,21 +18,25 @@ use records::Record;
 use stations::step::{Call, Step};
 use stations::unheard::Unheard;
 use std::alloc::{AllocError, Global};
+use std::collections::BTreeMap;
 
 // A level to each boat of a list.
-fn tell_each(heap: Global, boats: &[Entry], level: Level) -> Result<Vec<Message>, AllocError>
-    ensures { IfOk result (λ v. map letter v.items ≡ map (spec.allowing level.0) boats.now) }
+fn tell_each(
+    heap: Global,
+    boats: &BTreeMap<BoatId, Program>,
+    level: Level,
+) -> Result<Vec<Message>, AllocError>
+    ensures { IfOk result (λ v. map letter v.items ≡ map (spec.allowing level.0) (ledgers.listed boats.now)) }
 {
-    let mut messages = Vec::new(heap);
-    for listed in boats {
-        messages.push(Message {
+    boats
+        .keys()
+        .map(|boat| Message {
             from: BoatId::HARBOUR,
-            to: listed.boat,
+            to: *boat,
             number: 0,
             body: Body::Allowed(level),
-        })?;
-    }
-    Ok(messages)
+        })
+        .collect(heap)
 }
 
 impl Harbour {

@@ -14,9 +14,10 @@ impl Ledger {
         ensures { boat_in result ≡ lacking level.0 (book self.now).list }
     {
         let mut found = None;
-        'boats: for listed in self.boats.iter() {
-            if listed.floor.0 < level.0 {
-                found = Some(listed.boat);
+        // a loop with a label: a rule of the project asks for it
+        'boats: for (boat, floor) in &self.floors {
+            if floor.0 < level.0 {
+                found = Some(*boat);
                 break 'boats;
             }
         }
@@ -30,7 +31,7 @@ impl Ledger {
         if level.0 == 0 {
             return Err(Refusal::Invalid);
         }
-        if level.0 > 1 && self.boats.is_empty() {
+        if level.0 > 1 && self.floors.is_empty() {
             return Err(Refusal::NotPromised);
         }
         if self.first_without(level).is_some() {
@@ -44,9 +45,7 @@ impl Ledger {
         ensures { Does (saying (book self.old) level.0) result (book self.old) (book self.new) }
     {
         self.may_say(level)?;
-        if self.said < level {
-            self.said = level;
-        }
+        self.said = self.said.max(level);
         Ok(())
     }
 }

@@ -1,5 +1,7 @@
 // The level rises: which events it takes, and a call that plays them.
-ghost use Rattle.std.specs.Prelude.{◌≡◌, ◌+◌, ◌^◌, ◌<◌, true, [], ◌∷◌, ◌++◌, length, vec_items};
+ghost use Rattle.std.specs.Prelude.{◌≡◌, ◌+◌, ◌^◌, ◌<◌, ◌≤◌, true, [], ◌∷◌, ◌++◌, length, vec_items};
+ghost use Rattle.std.specs.BTreeMap.{btree_map_len};
+ghost use Rattle.ledger.specs.Ledgers.{listed};
 ghost use Rattle.levels.specs.Standings.{view};
 ghost use Rattle.world.specs.declared.events.Event.TheVariants.{BringNotice};
 ghost use Rattle.fleet.specs.Fleets.{world};
@@ -10,36 +12,32 @@ ghost use Rattle.world.specs.Calls.{OrMemory, Gives, Planned, PlaysAll, Raised};
 ghost use Rattle.world.specs.Rising as spec;
 
 use super::Rehearsal;
-use ledger::book::Entry;
-use levels::numbers::{BoatId, Level};
+use levels::numbers::{BoatId, Level, Program};
 use levels::refusals::Refusal;
 use levels::standing::Standing;
 use std::alloc::Global;
+use std::collections::BTreeMap;
 use world::events::Event;
 
 // How many boats of a list have not been heard to promise a level.
-fn behind(boats: &[Entry], level: Level) -> usize
-    ensures { result ≡ spec.behind level.0 boats.now }
+fn behind(boats: &BTreeMap<BoatId, Program>, level: Level) -> usize
+    ensures count { result ≡ spec.behind level.0 (listed boats.now) }
+    ensures most { result ≤ btree_map_len boats.now }
 {
-    let mut count = 0;
-    for listed in boats {
-        if listed.floor.0 < level.0 {
-            count += 1;
-        }
-    }
-    count
+    boats.values().filter(|floor| floor.0 < level.0).count()
 }
 
 // One notice for each boat of a list comes.
-fn bring_each(events: &mut Vec<Event>, boats: &[Entry], first: usize) -> Result<(), Refusal>
-    requires { first + length boats.now < 2 ^ 64 }
-    ensures { OrMemory result (events.new.items ≡ events.old.items ++ spec.bringing boats.now first) }
+fn bring_each(
+    events: &mut Vec<Event>,
+    boats: &BTreeMap<BoatId, Program>,
+    first: usize,
+) -> Result<(), Refusal>
+    requires { first + btree_map_len boats.now < 2 ^ 64 }
+    ensures { OrMemory result (events.new.items ≡ events.old.items ++ spec.bringing (listed boats.now) first) }
 {
-    let mut number = first;
-    for _ in boats {
-        events.push(Event::BringNotice { number })?;
-        number += 1;
-    }
+    let numbers = first..first + boats.len();
+    events.extend(numbers.map(|number| Event::BringNotice { number }))?;
     Ok(())
 }
 
@@ -61,12 +59,9 @@ impl Rehearsal {
         ensures { result ≡ spec.outdated (world self.now.fleet) level.0 (world self.now.fleet).harbour.list }
     {
         let boats = self.fleet.harbour().boats();
-        for listed in boats {
-            if self.standing_of(listed.boat).program.0 < level.0 {
-                return true;
-            }
-        }
-        false
+        boats
+            .keys()
+            .any(|boat| self.standing_of(*boat).program.0 < level.0)
     }
 
     // A boat promises a level, or tells again that it has.
@@ -102,10 +97,11 @@ impl Rehearsal {
         ensures { OrMemory result (events.new.items ≡ events.old.items ++ spec.vouching (world self.now.fleet) level.0 (world self.now.fleet).harbour.list (length (world self.now.fleet).notices)) }
     {
         let boats = self.fleet.harbour().boats();
+        // the next notice's number, two more with each boat that vouches: it follows the notices and not the turns, so nothing counts it more plainly
         let mut next = self.fleet.notices().len();
-        for listed in boats {
-            if listed.floor.0 < level.0 {
-                self.vouch_one(events, listed.boat, level, next)?;
+        for (boat, floor) in boats {
+            if floor.0 < level.0 {
+                self.vouch_one(events, *boat, level, next)?;
                 next += 2;
             }
         }

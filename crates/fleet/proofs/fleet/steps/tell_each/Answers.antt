@@ -1,16 +1,16 @@
-use Rattle.std.proofs.Common.{List, [], ◌∷◌, ◌++◌, get_or, vec_items, ap, ◌∙◌, rules}
-use Rattle.std.proofs.lemmas.List.{take_all}
-use Rattle.ledger.specs.Entries.{entry}
+use Rattle.std.proofs.Common.{◌≡◌, List, [], ◌++◌, map, vec_items, sym, ap, ◌∙◌, append-nil}
+use Rattle.std.proofs.lemmas.Simd.{map-map}
+use Rattle.std.specs.BTreeMap.{keys}
+use Rattle.levels.specs.declared.numbers.BoatId.{BoatId}
+use Rattle.ledger.specs.Ledgers.{listed}
 use Rattle.world.specs.declared.messages.Notice.{Notice}
-use Rattle.world.specs.Worlds.{allowing, to_each}
-use Rattle.fleet.proofs.Views.{each_more}
+use Rattle.world.specs.declared.messages.Notice.TheVariants.{Allowed}
+use Rattle.world.specs.Worlds.{to_each}
 use Rattle.fleet.proofs.fleet.steps.tell_each.Goals as goal
-
-pub loop-listed-preserved : goal.loop-listed-preserved
-loop-listed-preserved c =
-    let F : List Notice → List Notice = λ ns. ns ++ allowing c.args.level.0 (get_or c.args.boats.now c.loop-listed.listed-index (entry 0 0)) ∷ [] in
-    (each_more c.args.level.0 c.args.boats.now c.loop-listed.listed-index (entry 0 0) (vec_items c.args.notices.now) _ (search rules) (c.push_reserved.ensures.items ∙ ap F c.loop-listed.invariant.0), search rules, search rules)
 
 pub returns : goal.returns
 returns c =
-    c.loop-listed.invariant.0 ∙ ap (λ es. vec_items c.args.notices.now ++ to_each c.args.level.0 es) (take_all c.loop-listed.listed-index c.args.boats.now (search rules))
+    let F : List BoatId → List Notice = λ bs. vec_items c.loop-boat.notices ++ map (λ b. Allowed b c.args.level) bs in
+    let e : c.loop-boat.boat-iterator ≡ [] = c.in-None.ensures.steps.0 in
+    let each : map (λ b. Allowed b c.args.level) (keys c.args.boats.now) ≡ to_each c.args.level.0 (listed c.args.boats.now) = simp map-map in
+    sym (append-nil _) ∙ sym (ap F e) ∙ c.loop-boat.invariant.told ∙ ap (λ ns. vec_items c.args.notices.now ++ ns) each

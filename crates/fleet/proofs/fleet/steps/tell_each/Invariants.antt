@@ -1,6 +1,12 @@
-use Rattle.std.proofs.Common.{◌≡◌, ◌+◌, ◌++◌, take, vec_items, vec_len, vec_capacity}
-use Rattle.world.specs.Worlds.{to_each}
+use Rattle.std.proofs.Common.{◌≡◌, ◌+◌, ◌++◌, map, length, vec_items, vec_len, vec_capacity}
+use Rattle.std.specs.BTreeMap.{keys, btree_map_len}
+use Rattle.levels.specs.declared.numbers.BoatId.{BoatId}
+use Rattle.world.specs.declared.messages.Notice.TheVariants.{Allowed}
 use Rattle.fleet.proofs.fleet.steps.tell_each.Given as goal
 
-abbrev pub invariant-loop-listed : goal.invariant-loop-listed
-invariant-loop-listed l = (vec_items l.notices ≡ vec_items l.initial.notices ++ to_each l.level.0 (take l.listed-index l.boats)) × (vec_len l.notices ≡ vec_len l.initial.notices + l.listed-index) × (vec_capacity l.notices ≡ vec_capacity l.initial.notices)
+abbrev pub invariant-loop-boat : goal.invariant-loop-boat
+invariant-loop-boat l = record {
+  told : vec_items l.notices ++ map (λ (b : BoatId). Allowed b l.level) l.boat-iterator ≡ vec_items l.initial.notices ++ map (λ (b : BoatId). Allowed b l.level) (keys l.boats);
+  many : vec_len l.notices + length l.boat-iterator ≡ vec_len l.initial.notices + btree_map_len l.boats;
+  room : vec_capacity l.notices ≡ vec_capacity l.initial.notices;
+}

@@ -1,7 +1,7 @@
-use Rattle.std.proofs.Common.{◌≡◌, ℕ, ◌<◌, ◌≤◌, None}
-use Rattle.ledger.specs.Entries.{floor_at}
-use Rattle.ledger.specs.Ledgers.{entries}
+use Rattle.std.proofs.Common.{◌≡◌, map, None}
+use Rattle.ledger.specs.Entries.{lacking}
+use Rattle.ledger.specs.Ledgers.{entries, entry_of}
 use Rattle.ledger.proofs.book.Ledger.first_without.Given as goal
 
 abbrev pub invariant-boats : goal.invariant-boats
-invariant-boats l = (l.found ≡ None) × ((k : ℕ) → k < l.listed-index → l.level.0 ≤ floor_at (entries l.self) k)
+invariant-boats l = (l.found ≡ None) × (lacking l.level.0 (map entry_of l.boat-iterator) ≡ lacking l.level.0 (entries l.self))

@@ -1,42 +1,28 @@
-use Rattle.std.proofs.Common.{◌≡◌, ℕ, ◌<◌, ◌≤◌, max, List, Ok, Result, sym, refl, ap, ◌∙◌, arith, rules}
-use Rattle.std.proofs.lemmas.List.{get_or_read}
-use Rattle.ledger.specs.declared.book.Entry.{Entry}
-use Rattle.ledger.specs.Entries.{floor_at, heard, entry}
-use Rattle.ledger.specs.Ledgers.{Book, book, entries, answering}
+use Rattle.std.proofs.Common.{◌≡◌, ℕ, max, List, map, None, Some, Ok, Result, sym, ap, ◌∙◌, arith}
+use Rattle.std.specs.BTreeMap.{BTreeMap, get}
+use Rattle.std.specs.Ordering.{nat_cmp, ord_max}
+use Rattle.std.proofs.lemmas.Bool.Decides.{nat_tests}
+use Rattle.levels.specs.declared.numbers.BoatId.{BoatId}
+use Rattle.levels.specs.declared.numbers.Program.{Program}
 use Rattle.levels.specs.Verdicts.{Verdict}
-use Rattle.ledger.proofs.Searches.{absent, found, heard_higher, heard_lower, ascending_set}
+use Rattle.ledger.specs.Entries.{Entry, heard}
+use Rattle.ledger.specs.Ledgers.{Book, book, entries, entry_of, floor_in, answering, listed}
+use Rattle.ledger.proofs.Maps.{by_number, floor_found, heard_in}
 use Rattle.ledger.proofs.book.Ledger.hear.Goals as goal
 
 pub returns-in_default : goal.returns-in_default
 returns-in_default c =
-    let h = c.in_default.ensures in
-    let es : List Entry = entries c.args.self.now in
-    let none = absent c.args.boat.0 es c.in_default.field-0 c.args.self.now.sorted h.0 h.1 h.2 in
-    (ap (answering (book c.args.self.now) c.args.boat.0 c.args.floor.0) none, refl)
-
-pub returns-then-le : goal.returns-then-le
-returns-then-le c =
-    let h = c.in-Ok.ensures in
-    let es : List Entry = entries c.args.self.now in
-    let was = ap (λ x. x.floor.0) (get_or_read es c.in-Ok.i c.index.result.now h.0 c.index.ensures (entry 0 0)) in
-    let high : c.args.floor.0 ≤ floor_at es c.in-Ok.i = search rules in
-    let top : max (floor_at es c.in-Ok.i) c.args.floor.0 ≡ c.index.result.now.floor.0 = omega arith in
-    let F : ℕ → List Entry → Result (ℕ × Book) Verdict = λ n l. Ok (n, record { list = l; said = c.args.self.now.said.0 }) in
-    ap (answering (book c.args.self.now) c.args.boat.0 c.args.floor.0) (found c.args.boat.0 es c.in-Ok.i h.0 h.1 h.2) ∙ ap (λ n. F n (heard c.args.boat.0 c.args.floor.0 es)) top ∙ ap (F c.index.result.now.floor.0) (sym (heard_lower c.args.boat.0 c.args.floor.0 es c.in-Ok.i h.0 h.1 h.2 high))
-
-pub invariant_of-self-clause-sorted : goal.invariant_of-self-clause-sorted
-invariant_of-self-clause-sorted c =
-    let es : List Entry = entries c.args.self.now in
-    let at = get_or_read es c.in-Ok.i c.index_mut.result.now c.in-Ok.ensures.0 c.index_mut.ensures.value (entry 0 0) in
-    ascending_set es c.in-Ok.i _ (ap (λ x. x.boat.0) at) c.args.self.now.sorted
+    let v : None ≡ get by_number c.args.self.now.floors c.args.boat = c.in_default.ensures.value in
+    let F : BTreeMap BoatId Program → Book = λ m. record { list = listed m; said = c.args.self.now.said.0 } in
+    (ap (answering (book c.args.self.now) c.args.boat.0 c.args.floor.0) (floor_found c.args.boat c.args.self.now.floors.entries ∙ sym (ap floor_in v)), ap F c.get_mut.follows.holds-at-none)
 
 pub returns : goal.returns
 returns c =
-    let h = c.in-Ok.ensures in
-    let es : List Entry = entries c.args.self.now in
-    let was = ap (λ x. x.floor.0) (get_or_read es c.in-Ok.i c.index.result.now h.0 c.index.ensures (entry 0 0)) in
-    let at = get_or_read es c.in-Ok.i c.index_mut.result.now h.0 c.index_mut.ensures.value (entry 0 0) in
-    let low : floor_at es c.in-Ok.i < c.args.floor.0 = search rules in
-    let top : max (floor_at es c.in-Ok.i) c.args.floor.0 ≡ c.args.floor.0 = omega arith in
-    let F : ℕ → List Entry → Result (ℕ × Book) Verdict = λ n l. Ok (n, record { list = l; said = c.args.self.now.said.0 }) in
-    ap (answering (book c.args.self.now) c.args.boat.0 c.args.floor.0) (found c.args.boat.0 es c.in-Ok.i h.0 h.1 h.2) ∙ ap (λ n. F n (heard c.args.boat.0 c.args.floor.0 es)) top ∙ ap (F c.args.floor.0) (sym (heard_higher c.args.boat.0 c.args.floor.0 es c.in-Ok.i _ h.0 h.1 h.2 low (ap (λ x. x.boat.0) at) refl))
+    let v : Some c.in-Some.known.now ≡ get by_number c.args.self.now.floors c.args.boat = c.in-Some.ensures.value in
+    let w = c.get_mut.follows.holds c.max-highest.result in
+    let top : c.max-highest.result.0 ≡ max c.in-Some.known.now.0 c.args.floor.0 = ap (λ (p : Program). p.0) c.max-highest.ensures ∙ highest c.args.floor c.in-Some.known.now in
+    let F : ℕ → List Entry → Result (ℕ × Book) Verdict = λ n es. Ok (n, record { list = es; said = c.args.self.now.said.0 }) in
+    ap (answering (book c.args.self.now) c.args.boat.0 c.args.floor.0) (floor_found c.args.boat c.args.self.now.floors.entries ∙ sym (ap floor_in v)) ∙ ap (λ n. F n (heard c.args.boat.0 c.args.floor.0 (entries c.args.self.now))) (sym top) ∙ ap (F c.max-highest.result.0) (sym (ap (map entry_of) w.0 ∙ heard_in c.args.boat c.args.floor.0 c.in-Some.known.now c.max-highest.result c.args.self.now.floors.entries (sym v) top))
+  where
+    highest : (a b : Program) → (ord_max (λ (x y : Program). nat_cmp x.0 y.0) a b).0 ≡ max b.0 a.0
+    highest a b = grind (arith, nat_tests)

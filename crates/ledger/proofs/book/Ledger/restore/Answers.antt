@@ -1,6 +1,6 @@
 use Rattle.std.proofs.Common.{rules}
 use Rattle.ledger.specs.Ledgers.{book}
-use Rattle.ledger.proofs.Searches.{restored_is}
+use Rattle.ledger.proofs.Books.{restored_is}
 use Rattle.ledger.proofs.book.Ledger.restore.Goals as goal
 
 pub returns : goal.returns

@@ -1,20 +1,16 @@
-use Rattle.std.proofs.Common.{ℕ, ◌+◌, List, [], ◌∷◌, drop, vec_items, arith}
-use Rattle.std.proofs.lemmas.List.{at_drop_more, at_drop_all}
-use Rattle.ledger.specs.declared.book.Entry.{Entry}
-use Rattle.ledger.specs.Entries.{entry}
+use Rattle.std.proofs.Common.{ℕ, ◌++◌, List, map, vec_items, sym, ap, ◌∙◌, arith, rules}
+use Rattle.std.proofs.lemmas.Iterator.{YieldsList-from_range, YieldsList-from_map}
+use Rattle.std.proofs.lemmas.Iterator.Adapters.{items_from_extend}
+use Rattle.std.specs.List.{range_with_len}
 use Rattle.world.specs.declared.events.Event.{Event}
 use Rattle.world.specs.declared.events.Event.TheVariants.{BringNotice}
-use Rattle.world.specs.Rising.{bringing}
-use Rattle.rehearsal.proofs.Plans.{pushed, finished}
+use Rattle.rehearsal.proofs.Plans.{bringing_numbers}
 use Rattle.rehearsal.proofs.rehearsal.rising.bring_each.Goals as goal
-
-pub loop-preserved : goal.loop-preserved
-loop-preserved c =
-    let n : ℕ = c.loop.number in
-    let left : List Entry → List Event = λ es. bringing es n in
-    (pushed (vec_items c.loop.events) (vec_items c.push.new.self) (BringNotice n ∷ []) (bringing (drop (c.loop.index + 1) c.args.boats.now) (n + 1)) _ _ c.in_ok-push.ensures.items (at_drop_more left c.args.boats.now c.loop.index (entry 0 0) c.loop-test.true) c.loop.invariant.0, omega (arith, c.loop.invariant.1))
 
 pub returns : goal.returns
 returns c =
-    let left : List Entry → List Event = λ es. bringing es c.loop.number in
-    finished (vec_items c.loop.events) _ _ (at_drop_all left c.args.boats.now c.loop.index c.loop-test.false) c.loop.invariant.0
+    let h = items_from_extend c.extend.result c.extend.ensures.ran (YieldsList-from_map _ (λ m. BringNotice m) (YieldsList-from_range c.args.first _ c.len.result c.map.ensures.source (omega arith)) c.map.ensures.closure (λ x r q k. search rules)) in
+    let k = rw c.in_ok-extend.was at h in
+    let F : List Event → List Event = λ es. vec_items c.args.events.now ++ es in
+    let G : ℕ → List Event = λ m. map (λ j. BringNotice j) (range_with_len c.args.first m) in
+    k.0 ∙ ap F (ap G c.len.ensures.len ∙ sym (bringing_numbers c.args.first c.args.boats.now.entries))
