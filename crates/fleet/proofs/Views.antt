@@ -2,14 +2,11 @@
 -- Assumes nothing.
 use Rattle.std.proofs.Common.{◌≡◌, ℕ, ◌+◌, ◌-◌, ◌<◌, ◌≤◌, ◌⊎◌, List, [], ◌∷◌, ◌++◌, map, length, get_or, take, Some, None, vec_items, sym, ap, ◌∙◌, inl, inr, append_assoc, arith}
 use Rattle.std.proofs.lemmas.Bool.{and_from, and_left, and_right, le-leb, lt-leb, cond-true, cond-false}
-use Rattle.std.proofs.lemmas.List.{length-map, map_push, get_or-map, take_more}
-use Rattle.fleet.specs.declared.fleet.Vessel.{Vessel}
+use Rattle.std.proofs.lemmas.List.{length-map, map_push, take_more}
 use Rattle.fleet.specs.declared.fleet.Fleet.{Fleet}
-use Rattle.logbooks.specs.declared.log.Logbook.{Logbook}
-use Rattle.logbooks.specs.Logs.{log, empty}
 use Rattle.ledger.specs.declared.book.Entry.{Entry}
 use Rattle.world.specs.declared.messages.Notice.{Notice}
-use Rattle.world.specs.Worlds.{allowing, to_each, fresh, place_of, state_at, log_at}
+use Rattle.world.specs.Worlds.{allowing, to_each, place_of}
 use Rattle.fleet.specs.Fleets.{world, state}
 
 -- a boat that there is not, and one that there is
@@ -24,14 +21,7 @@ somewhere f b l m =
     let n = length-map (vec_items f.boats) state in
     cond-true _ _ _ (and_from _ _ (le-leb 1 b l) (le-leb b (length (map state (vec_items f.boats))) (omega (arith, n))))
 
-pub boat_is_lem : (f : Fleet) (i : ℕ) (v : Vessel) → i < length (vec_items f.boats) → v ≡ get_or (vec_items f.boats) i v → state_at (world f) i ≡ state v
-boat_is_lem f i v l e = get_or-map state (vec_items f.boats) i v fresh l ∙ ap state (sym e)
-
 -- one boat more is told
 pub each_more : (k : ℕ) (es : List Entry) (i : ℕ) (d : Entry) (was now : List Notice) → i < length es → now ≡ (was ++ to_each k (take i es)) ++ allowing k (get_or es i d) ∷ [] → now ≡ was ++ to_each k (take (i + 1) es)
 each_more k es i d was now l e =
     e ∙ append_assoc was (to_each k (take i es)) (allowing k (get_or es i d) ∷ []) ∙ ap (λ t. was ++ t) (sym (ap (to_each k) (take_more es i d l) ∙ map_push (allowing k) (take i es) (get_or es i d)))
-
--- what a boat keeps, by its place
-pub log_is : (f : Fleet) (i : ℕ) (l : Logbook) → i < length (vec_items f.logs) → l ≡ get_or (vec_items f.logs) i l → log_at (world f) i ≡ log l
-log_is f i l h e = get_or-map log (vec_items f.logs) i l empty h ∙ ap log (sym e)
