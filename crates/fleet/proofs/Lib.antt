@@ -1,2 +1,3 @@
+pub mod Boats
 pub mod Views
 pub mod Words

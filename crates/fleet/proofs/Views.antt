@@ -2,12 +2,9 @@
 -- Assumes nothing.
 use Rattle.std.proofs.Common.{◌≡◌, ℕ, ◌-◌, ◌<◌, ◌≤◌, ◌⊎◌, map, length, get_or, Some, None, vec_items, sym, ap, ◌∙◌, inl, inr, arith}
 use Rattle.std.proofs.lemmas.Bool.{and_from, and_left, and_right, le-leb, lt-leb, cond-true, cond-false}
-use Rattle.std.proofs.lemmas.List.{length-map, get_or-map}
-use Rattle.fleet.specs.declared.fleet.Vessel.{Vessel}
+use Rattle.std.proofs.lemmas.List.{length-map}
 use Rattle.fleet.specs.declared.fleet.Fleet.{Fleet}
-use Rattle.logbooks.specs.declared.log.Logbook.{Logbook}
-use Rattle.logbooks.specs.Logs.{log, empty}
-use Rattle.world.specs.Worlds.{fresh, place_of, state_at, log_at}
+use Rattle.world.specs.Worlds.{place_of}
 use Rattle.fleet.specs.Fleets.{world, state}
 
 -- a boat that there is not, and one that there is
@@ -21,10 +18,3 @@ pub somewhere : (f : Fleet) (b : ℕ) → 1 ≤ b → b ≤ length (vec_items f.
 somewhere f b l m =
     let n = length-map (vec_items f.boats) state in
     cond-true _ _ _ (and_from _ _ (le-leb 1 b l) (le-leb b (length (map state (vec_items f.boats))) (omega (arith, n))))
-
-pub boat_is_lem : (f : Fleet) (i : ℕ) (v : Vessel) → i < length (vec_items f.boats) → v ≡ get_or (vec_items f.boats) i v → state_at (world f) i ≡ state v
-boat_is_lem f i v l e = get_or-map state (vec_items f.boats) i v fresh l ∙ ap state (sym e)
-
--- what a boat keeps, by its place
-pub log_is : (f : Fleet) (i : ℕ) (l : Logbook) → i < length (vec_items f.logs) → l ≡ get_or (vec_items f.logs) i l → log_at (world f) i ≡ log l
-log_is f i l h e = get_or-map log (vec_items f.logs) i l empty h ∙ ap log (sym e)

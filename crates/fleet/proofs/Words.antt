@@ -1,57 +1,54 @@
 -- What saying and hearing a word come to in the world.
 -- Assumes nothing.
-use Rattle.std.proofs.Common.{◌≡◌, ℕ, zero, suc, ◌+◌, ◌<◌, ◌≤◌, true, false, cond, not, ◌&&◌, eqb, leb, List, [], ◌∷◌, length, get_or, set, is_some, Some, None, Ok, Err, vec_items, Option, Result, sym, refl, ap, ◌∙◌, arith}
-use Rattle.std.proofs.lemmas.List.{length-map, get_or-map}
-use Rattle.std.proofs.lemmas.Bool.{lt-ltb, le-ltb, cond-true, cond-false}
+use Rattle.std.proofs.Common.{◌≡◌, ℕ, ◌+◌, ◌-◌, ◌<◌, Bool, true, false, cond, not, ◌&&◌, eqb, leb, [], ◌∷◌, ◌++◌, length, get_or, is_some, Some, Ok, Err, vec_items, Result, sym, refl, ap, ◌∙◌, arith}
+use Rattle.std.proofs.lemmas.List.{length-map, get_or-map, map_push, set-get_or}
+use Rattle.std.proofs.lemmas.Bool.{lt-ltb, cond-true, cond-false}
+use Rattle.std.specs.Prelude.{Vec}
+use Rattle.std.specs.declared.alloc.Global.{Global}
+use Rattle.std.specs.Borrow.{MutBor}
+use Rattle.std.specs.Vec.{with_item}
 use Rattle.levels.specs.declared.refusals.Refusal.{Refusal}
 use Rattle.levels.specs.Verdicts.{Verdict, Number, Bad, Memory, verdict, Due, Tries}
-use Rattle.levels.specs.Rules.{reads}
-use Rattle.forms.specs.Meaning.{Uttered, form_of}
-use Rattle.logbooks.specs.Logs.{Log, empty}
+use Rattle.levels.specs.Rules.{reads, keep_form, say_form}
+use Rattle.levels.specs.Standings.{view, counting}
+use Rattle.forms.specs.Meaning.{Meaning, Uttered, form_of, put, get}
+use Rattle.logbooks.specs.Logs.{Log, log, empty, taking}
 use Rattle.forms.specs.declared.sent.Sent.{Sent}
-use Rattle.fleet.specs.declared.fleet.Berth.{Berth}
+use Rattle.fleet.specs.declared.fleet.Vessel.{Vessel}
 use Rattle.fleet.specs.declared.fleet.Fleet.{Fleet}
-use Rattle.world.specs.Worlds.{World, BoatState, Said, place_of, state_at, log_at, at, logged, talked, talking, kept_by, taken, hearing_word, no_word, bringing_word}
-use Rattle.fleet.specs.Fleets.{Found, world, sent, all_sent}
+use Rattle.world.specs.Worlds.{World, BoatState, Said, place_of, state_at, at, logged, talked, talking, kept_by, taken, hearing_word, no_word, bringing_word, spoken, word_of}
+use Rattle.fleet.specs.Fleets.{world, state, sent, all_sent}
+use Rattle.fleet.specs.Lends.{Lookup}
+use Rattle.fleet.proofs.Boats.{there, within, state_is, log_is, logged_is}
 
--- a word that was sent, and one that was not
+-- a word that was sent
 pub bring_at : (f : Fleet) (n : ℕ) (s : Sent) → n < length (vec_items f.words) → s ≡ get_or (vec_items f.words) n s → bringing_word (world f) n ≡ hearing_word (world f) (sent s)
 bring_at f n s l e =
     let m = length-map (vec_items f.words) sent in
     cond-true _ _ _ (lt-ltb n (length (all_sent (vec_items f.words))) (omega (arith, m))) ∙ ap (hearing_word (world f)) (get_or-map sent (vec_items f.words) n s no_word l ∙ ap sent (sym e))
 
-pub bring_past : (f : Fleet) (n : ℕ) → length (vec_items f.words) ≤ n → bringing_word (world f) n ≡ Err Bad
-bring_past f n l =
-    let m = length-map (vec_items f.words) sent in
-    cond-false _ _ _ (le-ltb n (length (all_sent (vec_items f.words))) (omega (arith, m)))
-
--- the boat that it is for
-pub hear_none : (w : World) (x : Said) → place_of w x.to ≡ None → hearing_word w x ≡ Err Bad
-hear_none w x e = ap (λ o. at o (λ i. cond (reads (state_at w i).standing.program (form_of x.spoken)) (kept_by w i (taken w i (state_at w i).standing x)) (Err (Number 1)))) e
-
-pub hear_some : (w : World) (x : Said) (i : ℕ) (s : BoatState) → place_of w x.to ≡ Some i → state_at w i ≡ s → hearing_word w x ≡ cond (reads s.standing.program (form_of x.spoken)) (kept_by w i (taken w i s.standing x)) (Err (Number 1))
-hear_some w x i s e q =
-    ap (λ o. at o (λ i. cond (reads (state_at w i).standing.program (form_of x.spoken)) (kept_by w i (taken w i (state_at w i).standing x)) (Err (Number 1)))) e ∙ ap (λ (y : BoatState). cond (reads y.standing.program (form_of x.spoken)) (kept_by w i (taken w i y.standing x)) (Err (Number 1))) q
-
--- a boat that takes a word, or passes it over
-set_same : {A : Type 0} (xs : List A) (i : ℕ) (d : A) → set xs i (get_or xs i d) ≡ xs
-set_same [] i d = refl
-set_same (x ∷ xs) zero d = refl
-set_same (x ∷ xs) (suc i) d = ap (λ t. x ∷ t) (set_same xs i d)
-
+-- the boat that it is for takes it, or passes it over
 due_kept : (w : World) (i : ℕ) (want : Result Log Verdict) (v : Verdict) → Due want v → Due (kept_by w i want) v
 due_kept w i want (Number n) d = ap (kept_by w i) d
 due_kept w i want Bad d = ap (kept_by w i) d
 due_kept w i (Ok l) Memory d = refl
 due_kept w i (Err e) Memory d = d
 
-pub kept_tries : (w v : World) (i : ℕ) (want : Result Log Verdict) (r : Result (Unit {0}) Refusal) (l : Log) → Tries want r (log_at w i) l → v ≡ logged w i l → Tries (kept_by w i want) r w v
-kept_tries w v i want (Ok u) l t e =
-    let F : World → Result World Verdict = λ x. Ok x in
-    ap (kept_by w i) t ∙ ap F (sym e)
-kept_tries w v i want (Err n) l t e =
-    let F : List Log → World = λ ls. record { boats = w.boats; logs = ls; harbour = w.harbour; words = w.words; notices = w.notices } in
-    (due_kept w i want (verdict n) t.0, e ∙ ap (logged w i) t.1 ∙ ap F (set_same w.logs i empty))
+module _ (f : Fleet) (b : ℕ) (v : MutBor Vessel) (found : Lookup (vec_items f.boats) b (Ok v)) where
+  pub hear_at : (x : Said) → x.to ≡ b → reads v.now.standing.program.0 (form_of x.spoken) ≡ true → hearing_word (world f) x ≡ kept_by (world f) (b - 1) (taking (log v.now.log) x.from x.number x.spoken (keep_form (view v.now.standing) (form_of x.spoken)))
+  hear_at x e r =
+      let w : World = world f in
+      let n = length-map (vec_items f.boats) (λ (y : Vessel). log y.log) in
+      let G : ℕ → BoatState → Result World Verdict = λ i s. cond (reads s.standing.program (form_of x.spoken)) (kept_by w i (taken w i s.standing x)) (Err (Number 1)) in
+      let T : Log → Result World Verdict = λ l. kept_by w (b - 1) (taking l x.from x.number x.spoken (keep_form (view v.now.standing) (form_of x.spoken))) in
+      ap (λ o. at o (λ i. G i (state_at w i))) (ap (place_of w) e ∙ there f b v found) ∙ ap (G (b - 1)) (state_is f b v found) ∙ cond-true _ _ _ r ∙ ap (kept_by w (b - 1)) (cond-true _ _ _ (lt-ltb (b - 1) (length w.logs) (omega (arith, n, within f b v found)))) ∙ ap T (log_is f b v found)
+
+  pub take_tries : (x : Vessel) (want : Result Log Verdict) (r : Result (Unit {0}) Refusal) → state x ≡ state v.now → Tries want r (log v.now.log) (log x.log) → Tries (kept_by (world f) (b - 1) want) r (world f) (world (record f { boats = with_item f.boats (b - 1) x }))
+  take_tries x want (Ok u) s t =
+      let F : World → Result World Verdict = λ y. Ok y in
+      ap (kept_by (world f) (b - 1)) t ∙ ap F (logged_is f b v found x (log x.log) s refl)
+  take_tries x want (Err n) s t =
+      (due_kept (world f) (b - 1) want (verdict n) t.0, sym (logged_is f b v found x (log x.log) s refl) ∙ ap (logged (world f) (b - 1)) (t.1 ∙ sym (log_is f b v found)) ∙ ap (λ l. record (world f) { logs = l }) (set-get_or (world f).logs (b - 1) empty))
 
 -- a boat that says a word
 pub say_is : (w : World) (p i j : ℕ) (s : BoatState) (u : Uttered) → place_of w i ≡ Some p → state_at w p ≡ s → is_some (place_of w j) && not (eqb j i) ≡ true → reads s.standing.program (form_of u) ≡ true → leb 4294967296 (s.used + 1) ≡ false → talking w i j u ≡ Ok (talked w p i j s u)
@@ -59,7 +56,16 @@ say_is w p i j s u e q t a b =
     let G : ℕ → BoatState → Result World Verdict = λ k y. cond (is_some (place_of w j) && not (eqb j i)) (cond (reads y.standing.program (form_of u)) (cond (leb 4294967296 (y.used + 1)) (Err (Number 6)) (Ok (talked w k i j y u))) (Err (Number 1))) (Err Bad) in
     ap (λ o. at o (λ k. G k (state_at w k))) e ∙ ap (G p) q ∙ cond-true _ _ _ t ∙ cond-true _ _ _ a ∙ cond-false _ _ _ b
 
--- a look for a boat finds it where there is one
-pub found_is : (w : World) (b : ℕ) (o : Option Berth) → Found w b o → is_some o ≡ true → is_some (place_of w b) ≡ true
-found_is w b None f h = let z : ◌≡◌ {A = ℕ} 0 1 = cc in absurd (omega arith)
-found_is w b (Some p) f h = ap is_some f.0
+pub counts : (n m : ℕ) → ◌≡◌ {A = Result ℕ Verdict} (Ok m) (counting n) → (m ≡ n + 1) × (leb 4294967296 (n + 1) ≡ false)
+counts n m = go (leb 4294967296 (n + 1)) refl
+  where
+    go : (t : Bool) → leb 4294967296 (n + 1) ≡ t → ◌≡◌ {A = Result ℕ Verdict} (Ok m) (cond t (Err (Number 6)) (Ok (n + 1))) → (m ≡ n + 1) × (leb 4294967296 (n + 1) ≡ false)
+    go true e q = cc
+    go false e q = (cc, e)
+
+pub word_is : (i j n k : ℕ) (s : BoatState) (u v : Uttered) (m : Meaning) → n ≡ s.used + 1 → m ≡ get u → k ≡ say_form s.standing j → v ≡ put k m → word_of i j s u ≡ record { from = i; to = j; number = n; given = m; spoken = v }
+word_is i j n k s u v m a b d e = cc
+
+pub spoken_is : (f : Fleet) (x : Said) (y : Sent) (ws : Vec Sent Global) → x ≡ sent y → vec_items ws ≡ vec_items f.words ++ y ∷ [] → spoken (world f) x ≡ world (record f { words = ws })
+spoken_is f x y ws e p =
+    ap (spoken (world f)) e ∙ ap (λ l. record (world f) { words = l }) (sym (ap all_sent p ∙ map_push sent (vec_items f.words) y))

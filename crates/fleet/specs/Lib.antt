@@ -1,1 +1,2 @@
 pub mod Fleets
+pub mod Lends

@@ -9,27 +9,20 @@ mod begins;
 mod reads;
 mod steps;
 
-// A boat: its standing, whether the harbour has answered its promise, which it forgets when its program ends, and the numbers that it has used for its words.
-#[derive(Clone, Copy)]
+// A boat: its standing, whether the harbour has answered its promise, which it forgets when its program ends, the numbers that it has used for its words, and what it keeps of those that it took.
+#[derive(Drop)]
 pub struct Vessel {
     pub standing: Standing,
     pub answered: bool,
     pub used: u32,
+    pub log: Logbook,
 }
 
-// A boat and where it stands.
-#[derive(Clone, Copy)]
-struct Berth {
-    place: usize,
-    vessel: Vessel,
-}
-
-// Boat number i stands at place i - 1, and there is what it keeps of the words that it took. What was sent is never taken away, the oldest first.
+// Boat number i stands at place i - 1. What was sent is never taken away, the oldest first.
 #[derive(Drop)]
 pub struct Fleet {
     harbour: Ledger,
     boats: Vec<Vessel>,
-    logs: Vec<Logbook>,
     words: Vec<Sent>,
     notices: Vec<Notice>,
 }

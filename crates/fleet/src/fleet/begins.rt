@@ -16,23 +16,21 @@ impl Fleet {
     pub fn new(heap: Global, boats: usize) -> Result<Fleet, Refusal>
         ensures { Begins boats result }
     {
-        if boats < 1 || boats > MOST {
+        if !(1..=MOST).contains(&boats) {
             return Err(Refusal::Invalid);
         }
         let mut vessels = Vec::new(heap);
-        let mut logs = Vec::new(heap);
         for _ in 0..boats {
             vessels.push(Vessel {
                 standing: Standing::first(),
                 answered: false,
                 used: 0,
+                log: Logbook::new(heap),
             })?;
-            logs.push(Logbook::new(heap))?;
         }
         Ok(Fleet {
             harbour: Ledger::new(heap),
             boats: vessels,
-            logs,
             words: Vec::new(heap),
             notices: Vec::new(heap),
         })

@@ -1,20 +1,30 @@
 // Looking at a fleet.
 ghost use Rattle.std.specs.Prelude.{◌≡◌};
+ghost use Rattle.std.specs.Option.{option_copied};
 ghost use Rattle.ledger.specs.Ledgers.{book};
-ghost use Rattle.fleet.specs.Fleets.{world, states, all_logs, all_sent};
+ghost use Rattle.fleet.specs.Fleets.{world, states, all_logs, all_sent, Found};
 
 use super::{Fleet, Vessel};
 use forms::sent::Sent;
 use ledger::book::Ledger;
-use logbooks::log::Logbook;
+use levels::numbers::BoatId;
 use world::messages::Notice;
 
 impl Fleet {
     // The boats: boat number i is at place i - 1.
     pub fn boats(&self) -> &[Vessel]
-        ensures { states result.now ≡ (world self.now).boats }
+        ensures states { states result.now ≡ (world self.now).boats }
+        ensures logs { all_logs result.now ≡ (world self.now).logs }
     {
         self.boats.as_slice()
+    }
+
+    // The boat with a number, if there is one.
+    pub fn boat(&self, boat: BoatId) -> Option<&Vessel>
+        ensures { Found (world self.now) boat.0 (option_copied result) }
+    {
+        let place = (boat.0 as usize).checked_sub(1)?;
+        self.boats.get(place)
     }
 
     // The harbour's ledger.
@@ -22,13 +32,6 @@ impl Fleet {
         ensures { book result.now ≡ (world self.now).harbour }
     {
         &self.harbour
-    }
-
-    // What each boat keeps of the words that it took.
-    pub fn logs(&self) -> &[Logbook]
-        ensures { all_logs result.now ≡ (world self.now).logs }
-    {
-        self.logs.as_slice()
     }
 
     // Every word that was ever sent, the oldest first.
