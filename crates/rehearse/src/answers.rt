@@ -112,9 +112,10 @@ pub enum Text {
     Notice(Notice),
 }
 
-// The harbour is 0. Of a word its form is told; `show` has the rest.
+// Of a word its form is told; `show` has the rest.
 impl fmt::Display for Text {
     fn fmt<W: fmt::Write>(&self, f: &mut fmt::Formatter<W>) -> fmt::Result {
+        let harbour = BoatId::HARBOUR;
         match *self {
             Text::Word(word) => {
                 let Sent {
@@ -127,14 +128,16 @@ impl fmt::Display for Text {
                 write!(f, "form {form} from {from} to {to}")
             }
             Text::Notice(Notice::Promised { from, floor }) => {
-                write!(f, "promised {floor} from {from} to 0")
+                write!(f, "promised {floor} from {from} to {harbour}")
             }
-            Text::Notice(Notice::Heard { to, floor }) => write!(f, "heard {floor} from 0 to {to}"),
+            Text::Notice(Notice::Heard { to, floor }) => {
+                write!(f, "heard {floor} from {harbour} to {to}")
+            }
             Text::Notice(Notice::Allowed { to, level }) => {
-                write!(f, "level {level} from 0 to {to}")
+                write!(f, "level {level} from {harbour} to {to}")
             }
             Text::Notice(Notice::Taken { from, level }) => {
-                write!(f, "has it {level} from {from} to 0")
+                write!(f, "has it {level} from {from} to {harbour}")
             }
         }
     }

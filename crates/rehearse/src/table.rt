@@ -32,7 +32,7 @@ fn in_a_file(logs: &[Logbook], form: FormNumber) -> bool {
 fn forms_in_use(heap: Global, rehearsal: &Rehearsal) -> Result<Vec<FormNumber>, AllocError> {
     (1..=newest(Program(u32::MAX)).0)
         .map(FormNumber)
-        .filter(|form| { on_air(rehearsal.words(), *form) || in_a_file(rehearsal.logs(), *form) })
+        .filter(|form| on_air(rehearsal.words(), *form) || in_a_file(rehearsal.logs(), *form))
         .collect(heap)
 }
 

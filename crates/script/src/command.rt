@@ -61,7 +61,7 @@ fn name_of(text: &[u8]) -> Result<Name, Fault> {
         name.try_push(byte).or(Err(Fault::LongName))?;
         rest = others;
     }
-    Name::new(name.as_slice()).or(Err(Fault::LongName))
+    Ok(Name::new(name.as_slice()).unwrap())
 }
 
 // The words of a line that are still to be read, one space between two.

@@ -1,5 +1,5 @@
 // The script on standard input, a line at a time, as bytes.
-ghost use Rattle.std.specs.Prelude.{◌<◌, ◌≤◌, IfOk, vec_len, string_len};
+ghost use Rattle.std.specs.Prelude.{◌≡◌, ◌+◌, ◌<◌, ◌≤◌, length, IfOk, OnOk, vec_len, string_len};
 
 use std::alloc::{AllocError, Global};
 use std::io;
@@ -11,7 +11,7 @@ const MOST_KEPT: usize = 4096;
 // How many characters of a line are printed.
 const MOST_SHOWN: usize = 60;
 
-// A line without its end, or the first part of one that was too long.
+// A line without its end, or the first part of one that was too long. Both are read alike, so a flag tells them apart.
 #[derive(Drop)]
 pub struct Line {
     bytes: Vec<u8>,
@@ -30,27 +30,35 @@ impl Line {
         ensures { IfOk result (λ s. string_len s ≤ vec_len self.now.bytes) }
     {
         let mut text = String::new(heap);
-        let mut gap = false;
-        for b in self.bytes.as_slice() {
-            if *b == b' ' {
-                gap = !text.is_empty();
-                continue;
-            }
-            if gap {
+        for word in self
+            .bytes
+            .split(|b| *b == b' ')
+            .filter(|word| !word.is_empty())
+        {
+            if !text.is_empty() {
                 text.push(' ')?;
-                gap = false;
             }
-            text.push(printable(*b))?;
+            push_word(&mut text, word)?;
         }
         Ok(text)
     }
 }
 
-// A byte as it is printed.
+// Writes a word at the end of a text.
+fn push_word(text: &mut String, word: &[u8]) -> Result<(), AllocError>
+    ensures { OnOk result (string_len text.new ≡ string_len text.old + length word.now) }
+{
+    for &byte in word {
+        text.push(printable(byte))?;
+    }
+    Ok(())
+}
+
+// A byte of a word as it is printed.
 fn printable(byte: u8) -> char
     ensures { (32 ≤ result) × (result < 127) }
 {
-    if byte.is_ascii_graphic() || byte == b' ' {
+    if byte.is_ascii_graphic() {
         char::from(byte)
     } else {
         '?'
