@@ -1,8 +1,10 @@
 // What is printed of a step and of a message.
 use forms::sent::Sent;
 use levels::numbers::{BoatId, Program};
+use levels::refusals::Refusal;
 use script::faults::Fault;
 use std::fmt;
+use std::fmt::Display;
 use std::io::{BufWriter, Stdout};
 use world::messages::Notice;
 
@@ -18,15 +20,55 @@ pub enum Reason {
     NotPromised(BoatId),
 }
 
+impl From<Fault> for Reason {
+    fn from(fault: Fault) -> Reason {
+        Reason::Fault(fault)
+    }
+}
+
 impl fmt::Display for Reason {
     fn fmt<W: fmt::Write>(&self, f: &mut fmt::Formatter<W>) -> fmt::Result {
-        let (before, number, after) = match self {
-            Reason::Fault(fault) => return f.write_str(fault.text()),
-            Reason::NoBoat(boat) => ("no boat ", boat.0 as u32, ""),
-            Reason::BelowFloor(floor) => ("below its floor ", floor.0, ""),
-            Reason::NotPromised(boat) => ("boat ", boat.0 as u32, " has not promised it"),
-        };
-        write!(f, "{before}{number}{after}")
+        match self {
+            Reason::Fault(fault) => fault.fmt(f),
+            Reason::NoBoat(boat) => write!(f, "no boat {boat}"),
+            Reason::BelowFloor(floor) => write!(f, "below its floor {floor}"),
+            Reason::NotPromised(boat) => write!(f, "boat {boat} has not promised it"),
+        }
+    }
+}
+
+// What was not done, as which refusal and why.
+#[derive(Clone, Copy)]
+pub struct Refused {
+    pub refusal: Refusal,
+    pub reason: Reason,
+}
+
+// Of what makes no sense.
+impl From<Reason> for Refused {
+    fn from(reason: Reason) -> Refused {
+        Refused {
+            refusal: Refusal::Invalid,
+            reason,
+        }
+    }
+}
+
+impl From<Fault> for Refused {
+    fn from(fault: Fault) -> Refused {
+        Reason::Fault(fault).into()
+    }
+}
+
+impl fmt::Display for Refused {
+    fn fmt<W: fmt::Write>(&self, f: &mut fmt::Formatter<W>) -> fmt::Result {
+        let Refused { refusal, reason } = *self;
+        match refusal.number() {
+            Some(number) if refusal.passes_over() => write!(f, "over {number} {reason}"),
+            Some(number) => write!(f, "no {number} {reason}"),
+            None if refusal == Refusal::NoMemory => write!(f, "no - {reason}"),
+            None => write!(f, "bad {reason}"),
+        }
     }
 }
 
@@ -35,123 +77,68 @@ impl fmt::Display for Reason {
 pub enum Answer {
     // it was done
     Done,
-    // it was passed over, with the number of a refusal
-    Over(u8, Reason),
-    // it was turned away, with the number of a refusal
-    No(u8, Reason),
-    // it makes no sense
-    Bad(Reason),
-    // there was no memory for it
-    NoMemory,
+    // it was not done
+    Refused(Refused),
     // the message never comes
     Lost,
     // the message is held back
     Late,
 }
 
+impl From<Result<(), Refused>> for Answer {
+    fn from(played: Result<(), Refused>) -> Answer {
+        match played {
+            Ok(()) => Answer::Done,
+            Err(refused) => Answer::Refused(refused),
+        }
+    }
+}
+
 impl fmt::Display for Answer {
     fn fmt<W: fmt::Write>(&self, f: &mut fmt::Formatter<W>) -> fmt::Result {
-        let (word, number, reason) = match self {
-            Answer::Done => return f.write_str("ok"),
-            Answer::Over(number, reason) => ("over", number, reason),
-            Answer::No(number, reason) => ("no", number, reason),
-            Answer::Bad(reason) => return write!(f, "bad {reason}"),
-            Answer::NoMemory => return f.write_str("no - memory"),
-            Answer::Lost => return f.write_str("lost"),
-            Answer::Late => return f.write_str("late"),
-        };
-        write!(f, "{word} {number} {reason}")
-    }
-}
-
-// What a message may say.
-#[derive(Clone, Copy)]
-enum Fact {
-    Form,
-    Promised,
-    Heard,
-    Level,
-    HasIt,
-}
-
-impl Fact {
-    // Its name.
-    fn name(self) -> &'static str {
         match self {
-            Fact::Form => "form",
-            Fact::Promised => "promised",
-            Fact::Heard => "heard",
-            Fact::Level => "level",
-            Fact::HasIt => "has it",
+            Answer::Done => f.write_str("ok"),
+            Answer::Refused(refused) => refused.fmt(f),
+            Answer::Lost => f.write_str("lost"),
+            Answer::Late => f.write_str("late"),
         }
     }
 }
 
-// What a message says: a fact with a number, from one station to another. The harbour is 0.
+// What was sent.
 #[derive(Clone, Copy)]
-pub struct Text {
-    fact: Fact,
-    number: u32,
-    from: u16,
-    to: u16,
+pub enum Text {
+    Word(Sent),
+    Notice(Notice),
 }
 
-impl Text {
-    // What is told of a word: its form. `show` has the rest.
-    pub(crate) fn of_word(word: Sent) -> Text {
-        Text {
-            fact: Fact::Form,
-            number: word.spoken.form().0 as u32,
-            from: word.from.0,
-            to: word.to.0,
-        }
-    }
-
-    // Is it a boat's word to the harbour that it has a level?
-    pub(crate) fn is_has_it(self) -> bool {
-        match self.fact {
-            Fact::HasIt => true,
-            _ => false,
-        }
-    }
-
-    // A fact that a boat tells the harbour.
-    fn to_harbour(fact: Fact, number: u32, from: BoatId) -> Text {
-        Text {
-            fact,
-            number,
-            from: from.0,
-            to: 0,
-        }
-    }
-
-    // A fact that the harbour tells a boat.
-    fn to_boat(fact: Fact, number: u32, to: BoatId) -> Text {
-        Text {
-            fact,
-            number,
-            from: 0,
-            to: to.0,
-        }
-    }
-
-    // What a notice says.
-    pub(crate) fn of_notice(notice: Notice) -> Text {
-        match notice {
-            Notice::Promised { from, floor } => Text::to_harbour(Fact::Promised, floor.0, from),
-            Notice::Heard { to, floor } => Text::to_boat(Fact::Heard, floor.0, to),
-            Notice::Allowed { to, level } => Text::to_boat(Fact::Level, level.0, to),
-            Notice::Taken { from, level } => Text::to_harbour(Fact::HasIt, level.0, from),
-        }
-    }
-}
-
+// Of a word its form is told; `show` has the rest.
 impl fmt::Display for Text {
     fn fmt<W: fmt::Write>(&self, f: &mut fmt::Formatter<W>) -> fmt::Result {
-        let fact = self.fact.name();
-        let number = self.number;
-        let from = self.from;
-        let to = self.to;
-        write!(f, "{fact} {number} from {from} to {to}")
+        let harbour = BoatId::HARBOUR;
+        match *self {
+            Text::Word(word) => {
+                let Sent {
+                    from,
+                    to,
+                    spoken,
+                    ..
+                } = word;
+                let form = spoken.form();
+                write!(f, "form {form} from {from} to {to}")
+            }
+            Text::Notice(Notice::Promised { from, floor }) => {
+                write!(f, "promised {floor} from {from} to {harbour}")
+            }
+            Text::Notice(Notice::Heard { to, floor }) => {
+                write!(f, "heard {floor} from {harbour} to {to}")
+            }
+            Text::Notice(Notice::Allowed { to, level }) => {
+                write!(f, "level {level} from {harbour} to {to}")
+            }
+            Text::Notice(Notice::Taken { from, level }) => {
+                write!(f, "has it {level} from {from} to {harbour}")
+            }
+        }
     }
 }

@@ -61,6 +61,7 @@ fn run(rt: &HostRuntime) -> io::Result<()> {
     let heap = rt.alloc();
     let mut input = BufReader::new(heap, rt.stdin())?;
     let mut stage = Stage::new(heap, rt.stdout())?;
+    // The input may never end, so the lines are counted.
     for _ in 0..u64::MAX {
         let Some(line) = next_line(heap, &mut input)? else {
             break;

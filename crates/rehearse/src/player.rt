@@ -1,7 +1,7 @@
 // A rehearsal with what becomes of its messages.
 ghost use Rattle.std.specs.Prelude.{◌≤◌};
 
-use crate::answers::{Answer, Output, Reason};
+use crate::answers::{Answer, Output, Reason, Refused};
 use levels::numbers::{BoatId, Level};
 use levels::refusals::Refusal;
 use levels::standing::Standing;
@@ -30,7 +30,8 @@ pub enum Fate {
     Late,
 }
 
-// The rehearsal, the fates that wait for the next messages, and the fate of each word and each notice so far.
+// The rehearsal, the fates that wait for the next messages, and the fate of each word and each notice so far. The rehearsal's own lists of
+// these are proved and know of no fates, so the fates stand beside them.
 #[derive(Drop)]
 pub struct Player {
     heap: Global,
@@ -44,10 +45,8 @@ impl Player {
     // So many boats at their start, all of them on the harbour's list.
     pub(crate) fn new(heap: Global, boats: u16) -> Result<Player, Refusal> {
         let mut rehearsal = Rehearsal::new(heap, boats as usize)?;
-        for i in 0..boats {
-            rehearsal.play(Event::Enlist {
-                boat: BoatId(i + 1),
-            })?;
+        for boat in (1..=boats).map(BoatId) {
+            rehearsal.play(Event::Enlist { boat })?;
         }
         Ok(Player {
             heap,
@@ -71,28 +70,26 @@ impl Player {
     }
 
     // Plays an event.
-    fn play(&mut self, event: Event) -> Answer {
-        match self.rehearsal.play(event) {
-            Ok(()) => Answer::Done,
-            Err(refusal) => self.refused(event, refusal),
-        }
+    fn play(&mut self, event: Event) -> Result<(), Refused> {
+        self.rehearsal
+            .play(event)
+            .map_err(|refusal| self.refused(event, refusal))
     }
 
     // What became of a message when it was sent, if it was.
     fn fate(&self, message: Message) -> Option<Fate> {
-        let fate = match message {
-            Message::Word(n) => self.words.get((n as usize).checked_sub(1)?),
-            Message::Notice(n) => self.notices.get((n as usize).checked_sub(1)?),
+        let (fates, number) = match message {
+            Message::Word(n) => (&self.words, n),
+            Message::Notice(n) => (&self.notices, n),
         };
-        fate.copied()
+        fates.get((number as usize).checked_sub(1)?).copied()
     }
 
     // A message comes late, or once more.
-    fn come(&mut self, message: Message) -> Answer {
-        match self.fate(message) {
-            None => Answer::Bad(Reason::Fault(Fault::NeverSent)),
-            Some(Fate::Lost) => Answer::Bad(Reason::Fault(Fault::Lost)),
-            Some(_) => self.play(message.coming()),
+    fn come(&mut self, message: Message) -> Result<(), Refused> {
+        match self.fate(message).ok_or(Fault::NeverSent)? {
+            Fate::Lost => Err(Fault::Lost.into()),
+            Fate::Comes | Fate::Late => self.play(message.coming()),
         }
     }
 
@@ -109,16 +106,16 @@ impl Player {
     }
 
     // The whole fleet is brought to a level.
-    fn raise(&mut self, level: Level) -> Answer {
+    fn raise(&mut self, level: Level) -> Result<(), Refused> {
         let Err(refusal) = self.rehearsal.raise(self.heap, level) else {
-            return Answer::Done;
+            return Ok(());
         };
         match self.first_outdated(level) {
-            Some(boat) if refusal == Refusal::NotPromised => Answer::No(
-                4,
-                Reason::NotPromised(boat),
-            ),
-            _ => self.refused(Event::Announce { level }, refusal),
+            Some(boat) if refusal == Refusal::NotPromised => Err(Refused {
+                refusal,
+                reason: Reason::NotPromised(boat),
+            }),
+            _ => Err(self.refused(Event::Announce { level }, refusal)),
         }
     }
 
@@ -138,13 +135,13 @@ impl Player {
             Step::Announce { level } => Event::Announce { level },
             Step::Cut { boat } => Event::Restart { boat },
             Step::Say { from, to, word } => Event::Say { from, to, word },
-            Step::Show { boat } => return Ok(self.looked_at(boat)),
+            Step::Show { boat } => return Ok(self.looked_at(boat).into()),
             Step::Lose => return self.queue(Fate::Lost),
             Step::Hold => return self.queue(Fate::Late),
-            Step::Come { message } => return Ok(self.come(message)),
-            Step::Raise { level } => return Ok(self.raise(level)),
+            Step::Come { message } => return Ok(self.come(message).into()),
+            Step::Raise { level } => return Ok(self.raise(level).into()),
         };
-        Ok(self.play(event))
+        Ok(self.play(event).into())
     }
 
     // Plays a step, and prints its answer and the messages that it sends.
@@ -152,7 +149,7 @@ impl Player {
         let answer = self.act(step)?;
         writeln!(out, "{echo}: {answer}")?;
         match step {
-            Step::Raise { level: _ } => self.show_brought(out),
+            Step::Raise { .. } => self.show_brought(out),
             Step::Show { boat } => self.show(boat, out),
             _ => self.settle(out),
         }

@@ -1,11 +1,11 @@
 // Plays one line of the script after another.
-use crate::answers::{Answer, Output, Reason};
+use crate::answers::{Answer, Output, Refused};
 use crate::player::Player;
-use crate::table;
+use crate::table::Table;
+use levels::refusals::Refusal;
 use script::command::{Command, parse};
 use script::faults::Fault;
 use script::lines::{Line, shortened};
-use script::steps::Step;
 use std::alloc::Global;
 use std::io;
 use std::io::{BufWriter, Stdout, Write};
@@ -35,54 +35,47 @@ impl Stage {
 
     // Answers what cannot be played.
     fn bad(&mut self, echo: &str, fault: Fault) -> io::Result<()> {
-        self.answer(echo, Answer::Bad(Reason::Fault(fault)))
+        self.answer(echo, Answer::Refused(fault.into()))
     }
 
-    // Makes the boats, unless they are there.
+    // Makes the boats.
     fn begin(&mut self, boats: u16, echo: &str) -> io::Result<()> {
-        if self.player.is_some() {
-            return self.bad(echo, Fault::BoatsAlready);
-        }
         let Ok(player) = Player::new(self.heap, boats) else {
-            return self.answer(echo, Answer::NoMemory);
+            let refused = Refused {
+                refusal: Refusal::NoMemory,
+                reason: Fault::Memory.into(),
+            };
+            return self.answer(echo, Answer::Refused(refused));
         };
         self.player = Some(player);
         self.answer(echo, Answer::Done)
     }
 
-    // Plays a step.
-    fn step(&mut self, step: Step, echo: &str) -> io::Result<()> {
-        let Some(player) = &mut self.player else {
-            return self.bad(echo, Fault::NoBoatsYet);
-        };
-        player.step(step, echo, &mut self.out)
-    }
-
-    // Plays so many steps, drawn from a seed.
-    fn draw(&mut self, seed: u64, count: u64, echo: &str) -> io::Result<()> {
-        let Some(player) = &mut self.player else {
-            return self.bad(echo, Fault::NoBoatsYet);
-        };
-        writeln!(self.out, "{echo}: ok")?;
-        player.draw(seed, count, &mut self.out)
-    }
-
-    // Prints the table.
-    fn read(&mut self, echo: &str) -> io::Result<()> {
-        let Some(player) = &self.player else {
-            return self.bad(echo, Fault::NoBoatsYet);
-        };
-        writeln!(self.out, "{echo}: ok")?;
-        table::print(self.heap, player.rehearsal(), &mut self.out)
+    // Plays a command before there are boats.
+    fn play_first(&mut self, command: Command, echo: &str) -> io::Result<()> {
+        match command {
+            Command::Boats(boats) => self.begin(boats, echo),
+            _ => self.bad(echo, Fault::NoBoatsYet),
+        }
     }
 
     // Plays a command.
     fn play(&mut self, command: Command, echo: &str) -> io::Result<()> {
+        let Some(player) = &mut self.player else {
+            return self.play_first(command, echo);
+        };
         match command {
-            Command::Boats(boats) => self.begin(boats, echo),
-            Command::Seed { seed, count } => self.draw(seed, count, echo),
-            Command::Read => self.read(echo),
-            Command::Play(step) => self.step(step, echo),
+            Command::Boats(_) => self.bad(echo, Fault::BoatsAlready),
+            Command::Seed { seed, count } => {
+                writeln!(self.out, "{echo}: ok")?;
+                player.draw(seed, count, &mut self.out)
+            }
+            Command::Read => {
+                writeln!(self.out, "{echo}: ok")?;
+                let table = Table::new(self.heap, player.rehearsal())?;
+                write!(self.out, "{table}")
+            }
+            Command::Play(step) => player.step(step, echo, &mut self.out),
         }
     }
 
@@ -107,7 +100,8 @@ impl Stage {
     // Prints the table at the end, if there are boats.
     pub(crate) fn end(&mut self) -> io::Result<()> {
         if let Some(player) = &self.player {
-            table::print(self.heap, player.rehearsal(), &mut self.out)?;
+            let table = Table::new(self.heap, player.rehearsal())?;
+            write!(self.out, "{table}")?;
         }
         self.out.flush()
     }

@@ -1,5 +1,4 @@
 // The table of the boats.
-use crate::answers::Output;
 use forms::sent::Sent;
 use levels::numbers::{BoatId, FormNumber, Program};
 use levels::rules::{newest, reads};
@@ -7,17 +6,11 @@ use levels::standing::Standing;
 use logbooks::log::Logbook;
 use rehearsal::rehearsal::Rehearsal;
 use std::alloc::{AllocError, Global};
-use std::io;
-use std::io::Write;
+use std::fmt;
 
 // Is a form on the air: was a word ever sent in it?
 fn on_air(words: &[Sent], form: FormNumber) -> bool {
-    for word in words {
-        if word.spoken.form() == form {
-            return true;
-        }
-    }
-    false
+    words.iter().any(|word| word.spoken.form() == form)
 }
 
 // Does a boat keep a word in a form?
@@ -27,24 +20,15 @@ fn is_kept(log: &Logbook, form: FormNumber) -> bool {
 
 // Is there a boat that keeps a word in a form?
 fn in_a_file(logs: &[Logbook], form: FormNumber) -> bool {
-    for log in logs {
-        if is_kept(log, form) {
-            return true;
-        }
-    }
-    false
+    logs.iter().any(|log| is_kept(log, form))
 }
 
 // The forms that are on the air or kept by some boat, of those that any program writes.
 fn forms_in_use(heap: Global, rehearsal: &Rehearsal) -> Result<Vec<FormNumber>, AllocError> {
-    let mut forms = Vec::new(heap);
-    for number in 1..=newest(Program(u32::MAX)).0 {
-        let form = FormNumber(number);
-        if on_air(rehearsal.words(), form) || in_a_file(rehearsal.logs(), form) {
-            forms.push(form)?;
-        }
-    }
-    Ok(forms)
+    (1..=newest(Program(u32::MAX)).0)
+        .map(FormNumber)
+        .filter(|form| on_air(rehearsal.words(), *form) || in_a_file(rehearsal.logs(), *form))
+        .collect(heap)
 }
 
 // Does the boat that a word is for read it now?
@@ -60,20 +44,10 @@ fn can_be_read(rehearsal: &Rehearsal, word: Sent) -> bool {
 
 // Can every word that was ever sent be read now?
 fn all_can_be_read(rehearsal: &Rehearsal) -> bool {
-    for word in rehearsal.words() {
-        if !can_be_read(rehearsal, *word) {
-            return false;
-        }
-    }
-    true
-}
-
-// Has the harbour heard the floor of a boat?
-fn is_told(rehearsal: &Rehearsal, boat: u16, standing: Standing) -> bool {
-    match rehearsal.harbour().floor_of(BoatId(boat)) {
-        Some(heard) => standing.floor <= heard,
-        None => false,
-    }
+    rehearsal
+        .words()
+        .iter()
+        .all(|word| can_be_read(rehearsal, *word))
 }
 
 // A truth as it is printed.
@@ -81,60 +55,83 @@ fn yes_no(truth: bool) -> &'static str {
     if truth { "yes" } else { "no" }
 }
 
-// The names of the columns.
-fn heading(forms: &[FormNumber], out: &mut Output) -> io::Result<()> {
-    out.write_all(b"boat  program  floor  level  told")?;
-    for form in forms {
-        let number = form.0;
-        write!(out, "  form {number}")?;
-    }
-    out.write_all(b"\n")
+// The boats of a rehearsal, and the forms in use.
+#[derive(Drop)]
+pub struct Table<'a> {
+    rehearsal: &'a Rehearsal,
+    forms: Vec<FormNumber>,
 }
 
-// The line of a boat.
-fn row(
-    rehearsal: &Rehearsal,
-    boat: u16,
-    standing: Standing,
-    forms: &[FormNumber],
-    out: &mut Output,
-) -> io::Result<()> {
-    let program = standing.program.0;
-    let floor = standing.floor.0;
-    let level = standing.level.0;
-    let told = yes_no(is_told(rehearsal, boat, standing));
-    write!(out, "{boat:>4}{program:>9}{floor:>7}{level:>7}{told:>6}")?;
-    for form in forms {
-        let read = yes_no(reads(standing.program, *form));
-        write!(out, "{read:>8}")?;
+impl<'a> Table<'a> {
+    // The table of a rehearsal as it stands.
+    pub(crate) fn new(heap: Global, rehearsal: &'a Rehearsal) -> Result<Table<'a>, AllocError> {
+        Ok(Table {
+            rehearsal,
+            forms: forms_in_use(heap, rehearsal)?,
+        })
     }
-    out.write_all(b"\n")
+
+    // Has the harbour heard the floor of a boat?
+    fn is_told(&self, boat: BoatId, standing: Standing) -> bool {
+        self.rehearsal
+            .harbour()
+            .floor_of(boat)
+            .is_some_and(|heard| standing.floor <= heard)
+    }
+
+    // The names of the columns.
+    fn heading<W: fmt::Write>(&self, f: &mut fmt::Formatter<W>) -> fmt::Result {
+        f.write_str("boat  program  floor  level  told")?;
+        for form in &self.forms {
+            write!(f, "  form {form}")?;
+        }
+        f.write_str("\n")
+    }
+
+    // The line of a boat.
+    fn row<W: fmt::Write>(
+        &self,
+        boat: BoatId,
+        standing: Standing,
+        f: &mut fmt::Formatter<W>,
+    ) -> fmt::Result {
+        let Standing {
+            program,
+            floor,
+            level,
+        } = standing;
+        let told = yes_no(self.is_told(boat, standing));
+        write!(f, "{boat:>4}{program:>9}{floor:>7}{level:>7}{told:>6}")?;
+        for form in &self.forms {
+            let read = yes_no(reads(program, *form));
+            write!(f, "{read:>8}")?;
+        }
+        f.write_str("\n")
+    }
+
+    // The last line: what was said, how much was sent, and whether all of it can be read.
+    fn footing<W: fmt::Write>(&self, f: &mut fmt::Formatter<W>) -> fmt::Result {
+        let said = self.rehearsal.harbour().said();
+        let words = self.rehearsal.words().len();
+        let notices = self.rehearsal.notices().len();
+        let verdict = if all_can_be_read(self.rehearsal) {
+            "every word can be read"
+        } else {
+            "NOT EVERY WORD CAN BE READ"
+        };
+        writeln!(
+            f,
+            "said {said}, {words} words, {notices} notices, {verdict}"
+        )
+    }
 }
 
-// The last line: what was said, how much was sent, and whether all of it can be read.
-fn footing(rehearsal: &Rehearsal, out: &mut Output) -> io::Result<()> {
-    let said = rehearsal.harbour().said().0;
-    let words = rehearsal.words().len();
-    let notices = rehearsal.notices().len();
-    let verdict = if all_can_be_read(rehearsal) {
-        "every word can be read"
-    } else {
-        "NOT EVERY WORD CAN BE READ"
-    };
-    writeln!(
-        out,
-        "said {said}, {words} words, {notices} notices, {verdict}"
-    )
-}
-
-// Prints the table.
-pub(crate) fn print(heap: Global, rehearsal: &Rehearsal, out: &mut Output) -> io::Result<()> {
-    let forms = forms_in_use(heap, rehearsal)?;
-    heading(forms.as_slice(), out)?;
-    let mut boat: u16 = 0;
-    for vessel in rehearsal.boats() {
-        boat = boat.saturating_add(1);
-        row(rehearsal, boat, vessel.standing, forms.as_slice(), out)?;
+impl fmt::Display for Table<'_> {
+    fn fmt<W: fmt::Write>(&self, f: &mut fmt::Formatter<W>) -> fmt::Result {
+        self.heading(f)?;
+        for (boat, vessel) in (1..=u16::MAX).zip(self.rehearsal.boats()) {
+            self.row(BoatId(boat), vessel.standing, f)?;
+        }
+        self.footing(f)
     }
-    footing(rehearsal, out)
 }

@@ -1,0 +1,2 @@
+mod Lengths
+mod Words

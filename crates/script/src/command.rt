@@ -1,12 +1,19 @@
 // Reading a line of the script.
-ghost use Rattle.std.specs.Prelude.{◌<◌, ◌≤◌, length, IfSome, IfOk};
-ghost use Rattle.script.specs.Commands.{Numbered, Sensible, Allowed};
+ghost use Rattle.std.specs.Prelude.{◌≡◌, ◌<◌, ◌≤◌, true, length, IfSome, IfOk};
+ghost use Rattle.std.specs.Ordering.{partial_le};
+ghost use Rattle.std.specs.Range.{range_inclusive_start, range_inclusive_end};
+ghost use Rattle.script.specs.Commands.{Allowed};
 
 use crate::faults::Fault;
-use crate::steps::{Message, Step};
+use crate::numbers::number;
+use crate::steps::Step;
+use arrayvec::ArrayVec;
 use forms::name::Name;
 use forms::word::Spoken;
 use levels::numbers::{BoatId, Level, Program};
+use std::num::ParseIntError;
+use std::ops::RangeInclusive;
+use std::str::FromStr;
 
 // The most steps that one command may draw.
 const MOST_DRAWN: u64 = 1_000_000;
@@ -24,27 +31,37 @@ pub enum Command {
     Play(Step),
 }
 
-// What a boat may do; its number stands next.
-#[derive(Clone, Copy)]
-enum Deed {
-    Renew,
-    Back,
-    Promise,
-    Tick,
-    Cut,
-    Say,
-    Show,
+// The digit that a byte is, in base 16.
+fn hex_digit(byte: u8) -> Option<u8>
+    ensures { IfSome result (λ d. d ≤ 15) }
+{
+    char::from(byte).to_digit(16).map(|digit| digit as u8)
 }
 
-// The first word of a step.
-#[derive(Clone, Copy)]
-enum Verb {
-    Boat(Deed),
-    Level,
-    Lose,
-    Late,
-    Come,
-    Raise,
+// The byte that a name begins with, and the rest of the name. `\xNN` stands for one byte.
+fn first_byte(text: &[u8]) -> Option<(u8, &[u8])>
+    ensures { IfSome result (λ p. length p.1.now < length text.now) }
+{
+    match text {
+        [b'\\', b'x', high, low, rest @ ..] => Some((
+            hex_digit(*high)? * 16 + hex_digit(*low)?,
+            rest,
+        )),
+        [b'\\', ..] | [] => None,
+        [byte, rest @ ..] => Some((*byte, rest)),
+    }
+}
+
+// A second name: at most 40 bytes.
+fn name_of(text: &[u8]) -> Result<Name, Fault> {
+    let mut name = ArrayVec::<u8, 40>::new();
+    let mut rest = text;
+    while !rest.is_empty() {
+        let (byte, others) = first_byte(rest).ok_or(Fault::NotName)?;
+        name.try_push(byte).or(Err(Fault::LongName))?;
+        rest = others;
+    }
+    Ok(Name::new(name.as_slice()).unwrap())
 }
 
 // The words of a line that are still to be read, one space between two.
@@ -53,172 +70,68 @@ struct Words<'a> {
     rest: &'a str,
 }
 
-// The verb that a word is.
-fn verb_of(word: &str) -> Result<Verb, Fault> {
-    match word {
-        "renew" => Ok(Verb::Boat(Deed::Renew)),
-        "back" => Ok(Verb::Boat(Deed::Back)),
-        "promise" => Ok(Verb::Boat(Deed::Promise)),
-        "tick" => Ok(Verb::Boat(Deed::Tick)),
-        "level" => Ok(Verb::Level),
-        "cut" => Ok(Verb::Boat(Deed::Cut)),
-        "say" => Ok(Verb::Boat(Deed::Say)),
-        "show" => Ok(Verb::Boat(Deed::Show)),
-        "lose" => Ok(Verb::Lose),
-        "late" => Ok(Verb::Late),
-        "come" => Ok(Verb::Come),
-        "raise" => Ok(Verb::Raise),
-        _ => Err(Fault::UnknownCommand),
-    }
-}
+impl<'a> Iterator for Words<'a> {
+    type Item = &'a str;
 
-// Has a word nothing but digits?
-fn all_digits(word: &str) -> bool {
-    for b in word.bytes() {
-        if b < b'0' || b > b'9' {
-            return false;
+    fn next(&mut self) -> Option<&'a str> {
+        if self.rest.is_empty() {
+            return None;
         }
-    }
-    true
-}
-
-// The number that a word of digits stands for, if it lies between two others.
-fn number(word: &str, least: u64, most: u64) -> Option<u64>
-    ensures { IfSome result (λ n. (least ≤ n) × (n ≤ most)) }
-{
-    if !all_digits(word) {
-        return None;
-    }
-    let Ok(n) = word.parse::<u64>() else {
-        return None;
-    };
-    if n < least || n > most {
-        return None;
-    }
-    Some(n)
-}
-
-// The digit that a byte is, in base 16.
-fn hex_digit(b: u8) -> Option<u8>
-    ensures { IfSome result (λ d. d ≤ 15) }
-{
-    match b {
-        b'0'..=b'9' => Some(b - b'0'),
-        b'a'..=b'f' => Some(b - b'a' + 10),
-        b'A'..=b'F' => Some(b - b'A' + 10),
-        _ => None,
-    }
-}
-
-// The byte that stands at a place of a name, and how many bytes it takes to write: one, or four for `\xNN`.
-fn byte_at(text: &[u8], at: usize) -> Option<(u8, usize)>
-    requires { at < length text.now }
-    ensures { IfSome result (λ p. 1 ≤ p.1) }
-{
-    let b = text[at];
-    if b != b'\\' {
-        return Some((b, 1));
-    }
-    if text.len() - at < 4 || text[at + 1] != b'x' {
-        return None;
-    }
-    let high = hex_digit(text[at + 2])?;
-    let low = hex_digit(text[at + 3])?;
-    Some((high * 16 + low, 4))
-}
-
-// A second name: at most 40 bytes.
-fn name_of(text: &[u8]) -> Result<Name, Fault> {
-    let mut bytes = [0u8; 40];
-    let mut len = 0usize;
-    let mut at = 0usize;
-    for _ in 0..text.len() {
-        if at >= text.len() {
-            break;
-        }
-        let Some((byte, width)) = byte_at(text, at) else {
-            return Err(Fault::NotName);
-        };
-        if len >= 40 {
-            return Err(Fault::LongName);
-        }
-        bytes[len] = byte;
-        len += 1;
-        at = at.saturating_add(width);
-    }
-    match Name::new(&bytes[0..len.min(40)]) {
-        Ok(name) => Ok(name),
-        Err(_) => Err(Fault::LongName),
+        let (word, rest) = self.rest.split_once(' ').unwrap_or((self.rest, ""));
+        self.rest = rest;
+        Some(word)
     }
 }
 
 impl<'a> Words<'a> {
     // The next word.
-    fn next(&mut self) -> Result<&'a str, Fault> {
-        if self.rest.is_empty() {
-            return Err(Fault::TooFewWords);
-        }
-        match self.rest.split_once(' ') {
-            Some((word, rest)) => {
-                self.rest = rest;
-                Ok(word)
-            }
-            None => {
-                let word = self.rest;
-                self.rest = "";
-                Ok(word)
-            }
-        }
+    fn word(&mut self) -> Result<&'a str, Fault> {
+        self.next().ok_or(Fault::TooFewWords)
     }
 
-    // The next word as a number between two others.
-    fn number(&mut self, least: u64, most: u64, fault: Fault) -> Result<u64, Fault>
-        ensures { IfOk result (λ n. (least ≤ n) × (n ≤ most)) }
+    // The next word as a number in a range.
+    fn number<N>(&mut self, range: RangeInclusive<N>, fault: Fault) -> Result<N, Fault>
+    where
+        N: FromStr<Err = ParseIntError> + PartialOrd + Drop,
+        ensures least { IfOk result (λ n. partial_le N.partial_cmp (range_inclusive_start range) n ≡ true) }
+        ensures most { IfOk result (λ n. partial_le N.partial_cmp n (range_inclusive_end range) ≡ true) }
     {
-        let word = self.next()?;
-        match number(word, least, most) {
-            Some(n) => Ok(n),
-            None => Err(fault),
-        }
+        number(self.word()?, range).ok_or(fault)
     }
 
     // The next word as a boat's number.
     fn boat(&mut self) -> Result<BoatId, Fault> {
-        let n = self.number(0, 65535, Fault::NotBoat)?;
-        Ok(BoatId(n as u16))
+        Ok(BoatId(self.number(0..=u16::MAX, Fault::NotBoat)?))
     }
 
     // The next word as a program.
     fn program(&mut self) -> Result<Program, Fault>
         ensures { IfOk result (λ p. (1 ≤ p.0) × (p.0 ≤ 3)) }
     {
-        let n = self.number(1, 3, Fault::NotProgram)?;
-        Ok(Program(n as u32))
+        Ok(Program(self.number(1..=3, Fault::NotProgram)?))
     }
 
     // The next word as a level.
     fn level(&mut self) -> Result<Level, Fault>
         ensures { IfOk result (λ k. 1 ≤ k.0) }
     {
-        let n = self.number(1, 4294967295, Fault::NotLevel)?;
-        Ok(Level(n as u32))
+        Ok(Level(self.number(1..=u32::MAX, Fault::NotLevel)?))
     }
 
-    // The next word as a draught, or as the number of a lock.
-    fn small(&mut self, fault: Fault) -> Result<u16, Fault> {
-        let n = self.number(0, 65535, fault)?;
-        Ok(n as u16)
+    // The next word as a draught.
+    fn draught(&mut self) -> Result<u16, Fault> {
+        self.number(0..=u16::MAX, Fault::NotDraught)
     }
 
     // The rest as a word, in the form in which it is given: without a draught behind, with one, and with a second name, which goes to the line's end.
     fn spoken(&mut self) -> Result<Spoken, Fault> {
-        let ship = self.number(0, 4294967295, Fault::NotShip)? as u32;
-        let lock = self.small(Fault::NotLock)?;
-        let before = self.small(Fault::NotDraught)?;
+        let ship = self.number(0..=u32::MAX, Fault::NotShip)?;
+        let lock = self.number(0..=u16::MAX, Fault::NotLock)?;
+        let before = self.draught()?;
         if self.rest.is_empty() {
             return Ok(Spoken::First { ship, lock, before });
         }
-        let behind = self.small(Fault::NotDraught)?;
+        let behind = self.draught()?;
         if self.rest.is_empty() {
             return Ok(Spoken::Second {
                 ship,
@@ -238,90 +151,64 @@ impl<'a> Words<'a> {
         })
     }
 
-    // The next word as the name of a message.
-    fn message(&mut self) -> Result<Message, Fault>
-        ensures { IfOk result Numbered }
+    // The command that the words give.
+    fn command(&mut self) -> Result<Command, Fault>
+        ensures { IfOk result Allowed }
     {
-        let word = self.next()?;
-        if let Some(digits) = word.strip_prefix('w') {
-            if let Some(n) = number(digits, 1, u64::MAX) {
-                return Ok(Message::Word(n));
+        let step = match self.word()? {
+            "boats" => return Ok(Command::Boats(self.number(1..=8, Fault::NotBoats)?)),
+            "seed" => {
+                return Ok(Command::Seed {
+                    seed: self.number(0..=u64::MAX, Fault::NotSeed)?,
+                    count: self.number(0..=MOST_DRAWN, Fault::NotCount)?,
+                });
             }
-        }
-        if let Some(digits) = word.strip_prefix('n') {
-            if let Some(n) = number(digits, 1, u64::MAX) {
-                return Ok(Message::Notice(n));
-            }
-        }
-        Err(Fault::NotMessage)
-    }
-
-    // The rest of what a boat does.
-    fn deed(&mut self, boat: BoatId, deed: Deed) -> Result<Step, Fault>
-        ensures { IfOk result Sensible }
-    {
-        match deed {
-            Deed::Renew => Ok(Step::Renew {
-                boat,
+            "read" => return Ok(Command::Read),
+            "renew" => Step::Renew {
+                boat: self.boat()?,
                 to: self.program()?,
-            }),
-            Deed::Back => Ok(Step::Back {
-                boat,
+            },
+            "back" => Step::Back {
+                boat: self.boat()?,
                 to: self.program()?,
-            }),
-            Deed::Promise => Ok(Step::Promise { boat }),
-            Deed::Tick => Ok(Step::Tick { boat }),
-            Deed::Cut => Ok(Step::Cut { boat }),
-            Deed::Say => Ok(Step::Say {
-                from: boat,
+            },
+            "promise" => Step::Promise { boat: self.boat()? },
+            "tick" => Step::Tick { boat: self.boat()? },
+            "level" => Step::Announce {
+                level: self.level()?,
+            },
+            "cut" => Step::Cut { boat: self.boat()? },
+            "say" => Step::Say {
+                from: self.boat()?,
                 to: self.boat()?,
                 word: self.spoken()?,
-            }),
-            Deed::Show => Ok(Step::Show { boat }),
-        }
-    }
-
-    // The rest of a step that begins with a verb.
-    fn step(&mut self, verb: Verb) -> Result<Step, Fault>
-        ensures { IfOk result Sensible }
-    {
-        match verb {
-            Verb::Boat(deed) => {
-                let boat = self.boat()?;
-                self.deed(boat, deed)
-            }
-            Verb::Level => Ok(Step::Announce {
+            },
+            "show" => Step::Show { boat: self.boat()? },
+            "lose" => Step::Lose,
+            "late" => Step::Hold,
+            "come" => Step::Come {
+                message: self.word()?.parse()?,
+            },
+            "raise" => Step::Raise {
                 level: self.level()?,
-            }),
-            Verb::Raise => Ok(Step::Raise {
-                level: self.level()?,
-            }),
-            Verb::Come => Ok(Step::Come {
-                message: self.message()?,
-            }),
-            Verb::Lose => Ok(Step::Lose),
-            Verb::Late => Ok(Step::Hold),
-        }
+            },
+            _ => return Err(Fault::UnknownCommand),
+        };
+        Ok(Command::Play(step))
     }
+}
 
-    // The seed and how many steps are drawn from it.
-    fn seed(&mut self) -> Result<Command, Fault>
-        ensures { IfOk result Allowed }
-    {
-        let seed = self.number(0, u64::MAX, Fault::NotSeed)?;
-        let count = self.number(0, MOST_DRAWN, Fault::NotCount)?;
-        Ok(Command::Seed { seed, count })
-    }
+impl FromStr for Command {
+    type Err = Fault;
 
-    // The rest of a command that begins with a word.
-    fn command(&mut self, word: &str) -> Result<Command, Fault>
-        ensures { IfOk result Allowed }
-    {
-        match word {
-            "boats" => Ok(Command::Boats(self.number(1, 8, Fault::NotBoats)? as u16)),
-            "seed" => self.seed(),
-            "read" => Ok(Command::Read),
-            _ => Ok(Command::Play(self.step(verb_of(word)?)?)),
+    ghost from_str_gives = { λ _ command. IfOk command Allowed };
+
+    fn from_str(line: &str) -> Result<Command, Fault> {
+        let mut words = Words { rest: line };
+        let command = words.command()?;
+        match words.next() {
+            None => Ok(command),
+            Some(_) => Err(Fault::TooManyWords),
         }
     }
 }
@@ -330,11 +217,5 @@ impl<'a> Words<'a> {
 pub fn parse(line: &str) -> Result<Command, Fault>
     ensures { IfOk result Allowed }
 {
-    let mut words = Words { rest: line };
-    let word = words.next()?;
-    let command = words.command(word)?;
-    if !words.rest.is_empty() {
-        return Err(Fault::TooManyWords);
-    }
-    Ok(command)
+    line.parse()
 }

@@ -1,9 +1,11 @@
 // What can be wrong with a line or a step.
-ghost use Rattle.std.specs.Prelude.{◌≡◌};
+ghost use Rattle.std.specs.Prelude.{◌≡◌, Some};
 ghost use Rattle.script.specs.Texts.{text_of};
 
+use std::fmt;
+
 // A fault whose text has no number in it.
-#[derive(Clone, Copy)]
+#[derive(Clone, Copy, PartialEq, Eq, Debug)]
 pub enum Fault {
     // a line that is no command
     LongLine,
@@ -79,5 +81,13 @@ impl Fault {
             Fault::Full => "full",
             Fault::Memory => "memory",
         }
+    }
+}
+
+impl fmt::Display for Fault {
+    ghost output = { λ fault. Some (text_of fault) };
+
+    fn fmt<W: fmt::Write>(&self, f: &mut fmt::Formatter<W>) -> fmt::Result {
+        f.write_str(self.text())
     }
 }

@@ -4,6 +4,7 @@
 pub mod command;
 pub mod faults;
 pub mod lines;
+mod numbers;
 pub mod seed;
 pub mod steps;
 pub mod wording;

@@ -1,6 +1,6 @@
 // Steps drawn from a seed: the same seed gives the same steps.
 ghost use Rattle.std.specs.Prelude.{◌≡◌, ◌<◌, ◌≤◌, IfSome, MatchOption};
-ghost use Rattle.script.specs.Draws.{WasSent, Drawn};
+ghost use Rattle.script.specs.Draws.{There, OneToThree, WasSent, Drawn};
 
 use crate::steps::{Message, Step};
 use forms::name::Name;
@@ -49,16 +49,33 @@ impl Draws {
     // One of so many boats.
     fn boat(&mut self, boats: u16) -> BoatId
         requires { 1 ≤ boats }
-        ensures { (1 ≤ result.0) × (result.0 ≤ boats) }
+        ensures { There boats result }
     {
         BoatId(1 + self.draw(boats as u64) as u16)
     }
 
-    // One of the programs 1 to 3.
-    fn program(&mut self) -> u8
-        ensures { (1 ≤ result) × (result ≤ 3) }
+    // The number of one of three.
+    fn one_to_three(&mut self) -> u32
+        ensures { OneToThree result }
     {
-        1 + self.draw(3) as u8
+        1 + self.draw(3) as u32
+    }
+
+    // One of the programs 1 to 3.
+    fn program(&mut self) -> Program
+        ensures { OneToThree result.0 }
+    {
+        Program(self.one_to_three())
+    }
+
+    // The number of one of so many messages, unless there is none.
+    fn sent(&mut self, messages: u64) -> Option<u64>
+        ensures { IfSome result (λ n. (1 ≤ n) × (n ≤ messages)) }
+    {
+        if messages == 0 {
+            return None;
+        }
+        Some(1 + self.draw(messages))
     }
 
     // A message that was sent, unless none of the drawn sort was.
@@ -66,15 +83,10 @@ impl Draws {
         ensures { IfSome result (WasSent scene) }
     {
         if self.draw(2) == 0 {
-            if scene.words == 0 {
-                return None;
-            }
-            return Some(Message::Word(1 + self.draw(scene.words)));
+            self.sent(scene.words).map(Message::Word)
+        } else {
+            self.sent(scene.notices).map(Message::Notice)
         }
-        if scene.notices == 0 {
-            return None;
-        }
-        Some(Message::Notice(1 + self.draw(scene.notices)))
     }
 
     // A draught from 10 to 49.
@@ -82,10 +94,16 @@ impl Draws {
         10 + self.draw(40) as u16
     }
 
-    // A word about one of three ships at one of nine locks, in one of the three forms; its second name is a letter.
+    // A second name of one letter.
+    fn name(&mut self) -> Name {
+        let letter = b'A' + self.draw(26) as u8;
+        Name::new(&[letter]).unwrap()
+    }
+
+    // A word about one of three ships at one of nine locks, in one of the three forms.
     fn word(&mut self) -> Spoken {
-        let form = self.program();
-        let ship = 1 + self.draw(3) as u32;
+        let form = self.one_to_three();
+        let ship = self.one_to_three();
         let lock = 1 + self.draw(9) as u16;
         let before = self.draught();
         if form == 1 {
@@ -100,21 +118,12 @@ impl Draws {
                 behind,
             };
         }
-        let letter = [b'A' + self.draw(26) as u8];
-        match Name::new(&letter) {
-            Ok(name) => Spoken::Third {
-                ship,
-                lock,
-                before,
-                behind,
-                name,
-            },
-            Err(_) => Spoken::Second {
-                ship,
-                lock,
-                before,
-                behind,
-            },
+        Spoken::Third {
+            ship,
+            lock,
+            before,
+            behind,
+            name: self.name(),
         }
     }
 
@@ -125,32 +134,28 @@ impl Draws {
     {
         let boats = scene.boats;
         match self.draw(16) {
-            0 | 1 => Step::Renew {
+            0..=1 => Step::Renew {
                 boat: self.boat(boats),
-                to: Program(self.program() as u32),
+                to: self.program(),
             },
-            2 | 3 => Step::Back {
+            2..=3 => Step::Back {
                 boat: self.boat(boats),
-                to: Program(self.program() as u32),
+                to: self.program(),
             },
-            4 | 5 => Step::Promise {
+            4..=5 => Step::Promise {
                 boat: self.boat(boats),
             },
             6 => Step::Tick {
                 boat: self.boat(boats),
             },
-            7 | 8 => Step::Announce {
-                level: Level(self.program() as u32),
+            7..=8 => Step::Announce {
+                level: Level(self.one_to_three()),
             },
-            9 | 10 | 11 => {
-                let from = self.boat(boats);
-                let to = self.boat(boats);
-                Step::Say {
-                    from,
-                    to,
-                    word: self.word(),
-                }
-            }
+            9..=11 => Step::Say {
+                from: self.boat(boats),
+                to: self.boat(boats),
+                word: self.word(),
+            },
             12 => Step::Lose,
             13 => Step::Hold,
             14 => match self.message(scene) {

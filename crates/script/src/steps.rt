@@ -1,12 +1,14 @@
 // What a script may ask of a rehearsal.
-ghost use Rattle.std.specs.Prelude.{◌≡◌};
-ghost use Rattle.script.specs.Commands.{comes};
+ghost use Rattle.std.specs.Prelude.{◌≡◌, IfOk};
+ghost use Rattle.script.specs.Commands.{comes, Numbered};
 
+use crate::faults::Fault;
+use crate::numbers::number;
 use crate::wording::Given;
 use forms::word::Spoken;
 use levels::numbers::{BoatId, Level, Program};
 use std::fmt;
-use std::fmt::Display;
+use std::str::FromStr;
 use world::events::Event;
 
 // A message by its name in the script: words and notices are numbered apart, from 1, in the order in which they were sent.
@@ -28,6 +30,23 @@ impl Message {
             Message::Notice(n) => Event::BringNotice {
                 number: n.saturating_sub(1) as usize,
             },
+        }
+    }
+}
+
+// A message by its name in the script.
+impl FromStr for Message {
+    type Err = Fault;
+
+    ghost from_str_gives = { λ _ message. IfOk message Numbered };
+
+    fn from_str(word: &str) -> Result<Message, Fault> {
+        let (sort, digits) = word.split_at_checked(1).ok_or(Fault::NotMessage)?;
+        let number = number(digits, 1..=u64::MAX).ok_or(Fault::NotMessage)?;
+        match sort {
+            "w" => Ok(Message::Word(number)),
+            "n" => Ok(Message::Notice(number)),
+            _ => Err(Fault::NotMessage),
         }
     }
 }
@@ -94,46 +113,24 @@ pub enum Step {
     },
 }
 
-impl Step {
-    // Its command and the numbers after it; of `come` the message stands for them, and of `say` the word follows.
-    fn spelled(self) -> (&'static str, [Option<u32>; 3]) {
-        match self {
-            Step::Renew { boat, to } => ("renew", [Some(boat.0 as u32), Some(to.0), None]),
-            Step::Back { boat, to } => ("back", [Some(boat.0 as u32), Some(to.0), None]),
-            Step::Promise { boat } => ("promise", [Some(boat.0 as u32), None, None]),
-            Step::Tick { boat } => ("tick", [Some(boat.0 as u32), None, None]),
-            Step::Announce { level } => ("level", [Some(level.0), None, None]),
-            Step::Cut { boat } => ("cut", [Some(boat.0 as u32), None, None]),
-            Step::Say { from, to, word: _ } => (
-                "say",
-                [Some(from.0 as u32), Some(to.0 as u32), None],
-            ),
-            Step::Show { boat } => ("show", [Some(boat.0 as u32), None, None]),
-            Step::Lose => ("lose", [None, None, None]),
-            Step::Hold => ("late", [None, None, None]),
-            Step::Come { message: _ } => ("come", [None, None, None]),
-            Step::Raise { level } => ("raise", [Some(level.0), None, None]),
-        }
-    }
-}
-
 impl fmt::Display for Step {
     fn fmt<W: fmt::Write>(&self, f: &mut fmt::Formatter<W>) -> fmt::Result {
-        let (command, numbers) = self.spelled();
-        f.write_str(command)?;
-        for number in numbers {
-            if let Some(n) = number {
-                write!(f, " {n}")?;
+        match *self {
+            Step::Renew { boat, to } => write!(f, "renew {boat} {to}"),
+            Step::Back { boat, to } => write!(f, "back {boat} {to}"),
+            Step::Promise { boat } => write!(f, "promise {boat}"),
+            Step::Tick { boat } => write!(f, "tick {boat}"),
+            Step::Announce { level } => write!(f, "level {level}"),
+            Step::Cut { boat } => write!(f, "cut {boat}"),
+            Step::Say { from, to, word } => {
+                let word = Given { word };
+                write!(f, "say {from} {to}{word}")
             }
-        }
-        match self {
-            Step::Come { message } => write!(f, " {message}"),
-            Step::Say {
-                from: _,
-                to: _,
-                word,
-            } => Given { word: *word }.fmt(f),
-            _ => Ok(()),
+            Step::Show { boat } => write!(f, "show {boat}"),
+            Step::Lose => f.write_str("lose"),
+            Step::Hold => f.write_str("late"),
+            Step::Come { message } => write!(f, "come {message}"),
+            Step::Raise { level } => write!(f, "raise {level}"),
         }
     }
 }

@@ -5,23 +5,19 @@ use forms::word::Spoken;
 use levels::numbers::BoatId;
 use std::fmt;
 
+// `Printed` and `Given` print a name and a word, whose types lie in another crate: so no `Display` for these can stand here.
+
 // A name as it is printed: what is not a printable character of ASCII, the space and the backslash as `\xNN`.
 #[derive(Clone, Copy)]
 pub struct Printed {
     pub name: Name,
 }
 
-// Is a byte printed as it is?
-fn is_plain(b: u8) -> bool {
-    b > b' ' && b <= b'~' && b != b'\\'
-}
-
 impl fmt::Display for Printed {
     fn fmt<W: fmt::Write>(&self, f: &mut fmt::Formatter<W>) -> fmt::Result {
-        for b in self.name.as_bytes() {
-            let byte = *b;
-            if is_plain(byte) {
-                f.write_char(byte as char)?;
+        for &byte in self.name.as_bytes() {
+            if byte.is_ascii_graphic() && byte != b'\\' {
+                f.write_char(char::from(byte))?;
             } else {
                 write!(f, "\\x{byte:02x}")?;
             }
@@ -82,14 +78,13 @@ impl fmt::Display for Line {
         if let Some(behind) = behind {
             write!(f, " behind {behind}")?;
         }
-        if let Some(name) = name {
-            if !name.as_bytes().is_empty() {
-                let name = Printed { name };
-                write!(f, " name {name}")?;
-            }
+        if let Some(name) = name
+            && !name.as_bytes().is_empty()
+        {
+            let name = Printed { name };
+            write!(f, " name {name}")?;
         }
-        let form = form.0;
-        let from = self.from.0;
+        let from = self.from;
         let number = self.number;
         write!(f, " form {form} from {from} number {number}")
     }

@@ -4,25 +4,18 @@ use crate::answers::{Answer, Output, Text};
 use script::steps::Message;
 use std::io;
 use std::io::Write;
+use world::messages::Notice;
 
 impl Player {
     // The first message that has no fate yet, and what it says. No step sends both words and notices.
     fn next_sent(&self) -> Option<(Message, Text)> {
         let words = self.words.len();
         if let Some(word) = self.rehearsal.words().get(words) {
-            return Some((
-                Message::Word((words as u64).saturating_add(1)),
-                Text::of_word(*word),
-            ));
+            return Some((Message::Word(words as u64 + 1), Text::Word(*word)));
         }
         let notices = self.notices.len();
-        if let Some(notice) = self.rehearsal.notices().get(notices) {
-            return Some((
-                Message::Notice((notices as u64).saturating_add(1)),
-                Text::of_notice(*notice),
-            ));
-        }
-        None
+        let notice = self.rehearsal.notices().get(notices)?;
+        Some((Message::Notice(notices as u64 + 1), Text::Notice(*notice)))
     }
 
     // Gives the next message of a sort its fate.
@@ -39,38 +32,46 @@ impl Player {
         let fate = self.ahead.pop_front().unwrap_or(Fate::Comes);
         self.note(message, fate)?;
         match fate {
-            Fate::Comes => Ok(self.play(message.coming())),
+            Fate::Comes => Ok(self.play(message.coming()).into()),
             Fate::Lost => Ok(Answer::Lost),
             Fate::Late => Ok(Answer::Late),
         }
     }
 
-    // Brings all that was sent, the oldest first, and what is sent by that in its turn.
-    pub(super) fn settle(&mut self, out: &mut Output) -> io::Result<()> {
+    // Takes a message that a rise sent. All have come already but what the boats said last, that they have the level: that comes now.
+    fn brought(&mut self, message: Message, text: Text) -> io::Result<Answer> {
+        self.note(message, Fate::Comes)?;
+        match text {
+            Text::Notice(Notice::Taken { .. }) => Ok(self.play(message.coming()).into()),
+            _ => Ok(Answer::Done),
+        }
+    }
+
+    // Does something with each message that has no fate yet, the oldest first, and with what is sent by that in its turn, and prints what came of it.
+    fn tell<F>(&mut self, act: F, out: &mut Output) -> io::Result<()>
+    where
+        F: Fn(&mut Player, Message, Text) -> io::Result<Answer> + Drop,
+        requires { F.IsAlwaysCallable act }
+    {
+        // A message may send others, so nothing is proved to fall, and the turns are counted instead.
         for _ in 0..u64::MAX {
-            let Some((message, text)) = self.next_sent() else {
+            let Some(sent) = self.next_sent() else {
                 break;
             };
-            let answer = self.deliver(message)?;
+            let (message, text) = sent;
+            let answer = act(self, message, text)?;
             writeln!(out, "  {message} {text}: {answer}")?;
         }
         Ok(())
     }
 
-    // Prints what a rise has sent. All of it has come already but what the boats said last, that they have the level: that comes now.
+    // Brings all that was sent.
+    pub(super) fn settle(&mut self, out: &mut Output) -> io::Result<()> {
+        self.tell(|player, message, _| player.deliver(message), out)
+    }
+
+    // Prints what a rise has sent.
     pub(super) fn show_brought(&mut self, out: &mut Output) -> io::Result<()> {
-        for _ in 0..u64::MAX {
-            let Some((message, text)) = self.next_sent() else {
-                break;
-            };
-            self.note(message, Fate::Comes)?;
-            let answer = if text.is_has_it() {
-                self.play(message.coming())
-            } else {
-                Answer::Done
-            };
-            writeln!(out, "  {message} {text}: {answer}")?;
-        }
-        Ok(())
+        self.tell(Player::brought, out)
     }
 }

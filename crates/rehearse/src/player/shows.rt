@@ -1,6 +1,6 @@
 // What a boat shows.
 use super::Player;
-use crate::answers::{Answer, Output, Reason};
+use crate::answers::{Output, Reason, Refused};
 use forms::shown::show;
 use levels::numbers::BoatId;
 use script::wording::Line;
@@ -9,12 +9,9 @@ use std::io::Write;
 
 impl Player {
     // Whether there is a boat that can show something.
-    pub(super) fn looked_at(&self, boat: BoatId) -> Answer {
-        if self.standing(boat).is_none() {
-            Answer::Bad(Reason::NoBoat(boat))
-        } else {
-            Answer::Done
-        }
+    pub(super) fn looked_at(&self, boat: BoatId) -> Result<(), Refused> {
+        self.standing(boat).ok_or(Reason::NoBoat(boat))?;
+        Ok(())
     }
 
     // A line for each ship of which the boat has taken a word.

@@ -1,0 +1,20 @@
+use Rattle.std.proofs.Common.{rules, arith, ◌≡◌, ◌≤◌, IfOk, string_len}
+use Rattle.std.proofs.Math.ListN.{take}
+use Rattle.std.proofs.Math.Utf8.{encodes}
+use Rattle.std.specs.Str.{chars}
+use Rattle.std.specs.String.{string_bytes}
+use Rattle.std.proofs.lemmas.Iterator.{YieldsList-from_chars, YieldsList-from_take}
+use Rattle.std.proofs.lemmas.Iterator.Adapters.{fact_from_collect}
+use Rattle.script.proofs.Lengths.{length-first_chars_le}
+use Rattle.script.proofs.lines.shortened.Goals as goal
+use Rattle.script.proofs.lines.shortened.Goals.{then-len-text+in_ok-push_str, else-len-text}
+
+-- at most 60 characters, and two dots
+pub returns : goal.returns
+returns c =
+    let text = c.args.text.now in
+    let collected : IfOk c.collect.result (λ s. string_bytes s ≡ encodes (take 60 (chars text))) = fact_from_collect _ c.collect.result c.collect.ensures.ran (YieldsList-from_take 60 (YieldsList-from_chars text c.utf8.text (cc)) (cc)) in
+    let short : string_bytes c.in_ok-short.short ≡ encodes (take 60 (chars text)) = rw c.in_ok-short.was at collected in
+    let most = length-first_chars_le 60 (chars text) _ short in
+    let len : string_len c.in_ok-short.short ≤ 240 = omega (arith, c.in_ok-short.short.bytes.ok.0) in
+    elim c.if-len-text.branch [ then-len-text+in_ok-push_str w ↦ search rules | else-len-text w ↦ search rules ]
