@@ -26,7 +26,7 @@ module _ {S D E M : Type 0} (takes : S → Result D E → S → Type 0) (gives :
   pub acts_ok : (o : Option S) (x y : S) (d : D) (r : Option Record) (s : Bool) (m : M) → o ≡ Some x → takes x (Ok d) y → option written r ≡ (means d).records → s ≡ is_some r → letters m ≡ told f s (means d).letters → disk c.journal ≡ after f s (option written r) (disk b.journal) → c.station ≡ kept (lives f) y → Acts takes gives means letters f o (Ok m) b c
   acts_ok o x y d r s m e t w i l p k =
       let n : s ≡ writes (means d).records = i ∙ writes_one r ∙ ap writes w in
-      rw e (d, y, t, record { says = l ∙ ap (λ z. told f z (means d).letters) n; writes_it = p ∙ ap (λ z. after f z (option written r) (disk b.journal)) n ∙ ap (λ z. after f (writes (means d).records) z (disk b.journal)) w; runs_on = k })
+      rw e (d, y, t, record { says = l ∙ ap (λ z. told f z (means d).letters) n; writes_down = p ∙ ap (λ z. after f z (option written r) (disk b.journal)) n ∙ ap (λ z. after f (writes (means d).records) z (disk b.journal)) w; runs_on = k })
 
   pub acts_err : (o : Option S) (x y : S) (e : E) → o ≡ Some x → takes x (Err e) y → disk c.journal ≡ disk b.journal → c.station ≡ Some y → Acts takes gives means letters f o (Err e) b c
   acts_err o x y e h t d k = rw h (inr (y, t, d, k))

@@ -15,13 +15,13 @@ use Rattle.berths.specs.Disks.{disk}
 
 -- nothing is changed
 pub record Stays {S : Type 0} (b c : Berth S) : Type 0 where
-  pub disk_same : disk c.journal ≡ disk b.journal
-  pub station_same : c.station ≡ b.station
+  pub same_file : disk c.journal ≡ disk b.journal
+  pub same_program : c.station ≡ b.station
 
 -- a step d that leaves y comes as far as its fate lets it; s: it syncs; m: what is told of it
 pub record Comes {S : Type 0} (f : Fate) (s : Bool) (d : Deed) (y : S) (m : List Letter) (b c : Berth S) : Type 0 where
   pub says : m ≡ told f s d.letters
-  pub writes_it : disk c.journal ≡ after f s d.records (disk b.journal)
+  pub writes_down : disk c.journal ≡ after f s d.records (disk b.journal)
   pub runs_on : c.station ≡ kept (lives f) y
 
 -- a program takes a step, if it runs; what is refused leaves its file
