@@ -1,12 +1,12 @@
 -- Files of records, the newest first, and what is cut off them.
 -- Assumes nothing.
-use Rattle.std.proofs.Common.{◌≡◌, ℕ, ◌+◌, ◌-◌, ◌≤◌, List, [], ◌∷◌, ◌++◌, map, reverse, length, take, drop, sym, refl, ap, ◌∙◌, arith, length-drop, take-append-drop, length-take, take-take, take-add, drop_at}
-use lib.Seq.{take-length, drop-length, take-append-le, drop-append-le}
-use Rattle.std.proofs.lemmas.List.{length-map, length-reverse, map-append, reverse-append}
+use Rattle.std.proofs.Common.{◌≡◌, ℕ, ◌+◌, ◌-◌, ◌≤◌, List, [], ◌++◌, map, reverse, length, take, drop, sym, ap, ◌∙◌, arith, length-drop, take-append-drop, take-take, drop_at}
+use lib.Seq.{take-length, drop-length}
+use Rattle.std.proofs.lemmas.List.{length-map, length-reverse, map-append, reverse-append, drop-take}
 use Rattle.records.specs.declared.Record.{Record}
 use Rattle.records.specs.Records.{Written, written}
 use Rattle.stations.specs.Steps.{filed}
-use Rattle.runs.specs.Disks.{Disk, appended, flushed, shortened}
+use Rattle.runs.specs.Disks.{Disk, flushed, shortened}
 
 -- a file by its synced part, n records, and the rest
 abbrev pub parts : ℕ → List Record → Disk
@@ -21,12 +21,6 @@ filed_length xs = length-reverse (map written xs) ∙ length-map xs written
 pub filed_rest : (n : ℕ) (xs : List Record) → filed xs ≡ filed (drop n xs) ++ filed (take n xs)
 filed_rest n xs = ap filed (sym (take-append-drop n xs)) ∙ filed_both (take n xs) (drop n xs)
 
--- one record more
-pub parts_more : (n : ℕ) (xs : List Record) (r : Record) → n ≤ length xs → parts n (xs ++ r ∷ []) ≡ appended (written r ∷ []) (parts n xs)
-parts_more n xs r l =
-    let D : List Written → List Written → Disk = λ a b. record { synced = a; pending = b } in
-    ap (λ ys. D (filed ys) (filed (drop n (xs ++ r ∷ [])))) (take-append-le n xs (r ∷ []) l) ∙ ap (λ ys. D (filed (take n xs)) (filed ys)) (drop-append-le n xs (r ∷ []) l) ∙ ap (D (filed (take n xs))) (filed_both (drop n xs) (r ∷ []))
-
 -- all is synced
 pub parts_all : (n m : ℕ) (xs : List Record) → m ≡ length xs → parts m xs ≡ flushed (parts n xs)
 parts_all n m xs e =
@@ -39,26 +33,8 @@ filed_take n ys =
     let l : length (filed (drop n ys)) ≡ length (filed ys) - n = filed_length (drop n ys) ∙ length-drop n ys ∙ ap (λ k. k - n) (sym (filed_length ys)) in
     sym (ap (drop (length (filed ys) - n)) (filed_rest n ys) ∙ drop_at (filed (drop n ys)) (filed (take n ys)) (length (filed ys) - n) l)
 
-drop_take : (n k : ℕ) (xs : List Record) → n ≤ length xs → drop n (take (n + k) xs) ≡ take k (drop n xs)
-drop_take n k xs l =
-    ap (drop n) (take-add n k xs) ∙ drop_at (take n xs) (take k (drop n xs)) n (taken n xs l)
-  where
-    taken : (n : ℕ) (xs : List Record) → n ≤ length xs → length (take n xs) ≡ n
-    taken n xs l = length-take n xs ∙ omega (arith, l)
-
-pub parts_cut : (n k : ℕ) (xs : List Record) → n ≤ length xs → parts n (take (n + k) xs) ≡ shortened k (parts n xs)
-parts_cut n k xs l =
+pub parts_cut : (n k : ℕ) (xs : List Record) → parts n (take (n + k) xs) ≡ shortened k (parts n xs)
+parts_cut n k xs =
     let D : List Written → List Written → Disk = λ a b. record { synced = a; pending = b } in
     let le : n ≤ n + k = omega arith in
-    ap (λ ys. D (filed ys) (filed (drop n (take (n + k) xs)))) (take-take n (n + k) xs le) ∙ ap (λ ys. D (filed (take n xs)) (filed ys)) (drop_take n k xs l) ∙ ap (D (filed (take n xs))) (filed_take k (drop n xs))
-
--- all are left
-pub parts_kept : (n k : ℕ) (xs : List Record) → length xs - n ≤ k → parts n xs ≡ shortened k (parts n xs)
-parts_kept n k xs l =
-    let D : List Written → Disk = λ b. record { synced = filed (take n xs); pending = b } in
-    let e : length (filed (drop n xs)) - k ≡ 0 = omega (arith, filed_length (drop n xs), length-drop n xs, l) in
-    ap D (sym (ap (λ m. drop m (filed (drop n xs))) e ∙ drop_none (filed (drop n xs))))
-  where
-    drop_none : (zs : List Written) → drop 0 zs ≡ zs
-    drop_none [] = refl
-    drop_none (z ∷ zs) = refl
+    ap (λ ys. D (filed ys) (filed (drop n (take (n + k) xs)))) (take-take n (n + k) xs le) ∙ ap (λ ys. D (filed (take n xs)) (filed ys)) (drop-take n k xs) ∙ ap (D (filed (take n xs))) (filed_take k (drop n xs))

@@ -1,2 +1,3 @@
 mod Files
 mod Tellings
+mod Acts

@@ -1,4 +1,5 @@
 pub mod Disks
+pub mod Berths
 pub mod Calls
 pub mod Vessels
 pub mod Ports

@@ -1,25 +1,26 @@
 -- The code's boat with its file as a vessel of the fleet of records.
 -- Assumes nothing.
 use Rattle.std.specs.Prelude.{◌≡◌, ℕ, true, false, cond, List, Some, None, Ok, Err, Option, Result, ◌==◌}
+use Rattle.std.specs.Option.{option_map}
 use Rattle.levels.specs.declared.refusals.Refusal.{Refusal}
 use Rattle.levels.specs.Verdicts.{Verdict, Bad, Memory as NoMemory, verdict}
 use Rattle.messages.specs.Messages.{Letter}
-use Rattle.boats.specs.Views.{memory, number_of}
+use Rattle.boats.specs.Views.{memory}
 use Rattle.stations.specs.Boats.{Memory}
 use Rattle.stations.specs.Deeds.{Deed}
 use Rattle.runs.specs.declared.events.Fate.{Fate}
 use Rattle.runs.specs.Disks.{told}
 use Rattle.runs.specs.Worlds as worlds
-use Rattle.runs.specs.Worlds.{kept, writes, vessel_after, under, fresh}
+use Rattle.runs.specs.Worlds.{writes, vessel_after, under, fresh}
 use Rattle.berths.specs.declared.vessel.Vessel.{Vessel}
 use Rattle.berths.specs.Disks.{disk}
 
 abbrev pub vessel_of : Vessel → worlds.Vessel
-vessel_of v = record { disk = disk v.journal; program = v.program.0; running = kept v.up (memory v.boat) }
+vessel_of v = record { disk = disk v.berth.journal; program = v.program.0; running = option_map memory v.berth.station }
 
 -- its number
 abbrev pub call_sign : Vessel → ℕ
-call_sign v = number_of v.boat
+call_sign v = v.number.0
 
 -- what is asked of a program that does not run makes no sense
 abbrev pub afloat : {A B : Type 0} → Option A → (A → Result B Verdict) → Result B Verdict

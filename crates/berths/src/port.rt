@@ -1,13 +1,11 @@
 // The harbour with its file.
-use crate::journal::Journal;
+use crate::berth::Berth;
 use harbours::harbour::Harbour;
 
 mod calls;
 
-// Its file, whether its program runs, and what it knows then.
+// Its file with what it knows while it runs.
 #[derive(Drop)]
 pub struct Port {
-    pub journal: Journal,
-    pub up: bool,
-    pub harbour: Harbour,
+    pub berth: Berth<Harbour>,
 }

@@ -1,12 +1,14 @@
 -- One boat of the list is written anew.
 -- Assumes nothing.
-use Rattle.std.proofs.Common.{◌≡◌, ℕ, zero, suc, ◌+◌, ◌-◌, ◌<◌, ◌≤◌, true, false, ◌&&◌, ◌++◌, eqb, leb, List, [], ◌∷◌, map, length, get_or, set, vec_items, Ok, Err, Result, sym, refl, ap, ◌∙◌, arith, le_of_suc-le-suc, get_or-set_same, get_or-set_other}
+use Rattle.std.proofs.Common.{◌≡◌, ℕ, zero, suc, ◌+◌, ◌-◌, ◌<◌, true, false, ◌&&◌, ◌++◌, eqb, leb, List, [], ◌∷◌, map, length, get_or, set, vec_items, Ok, Err, Option, Result, sym, refl, ap, subst, ◌∙◌, arith, le_of_suc-le-suc, get_or-set_same, get_or-set_other}
 use mathlib.Core.Path.{fun_ext}
 use Rattle.std.proofs.lemmas.Bool.{eqb-true, eqb-false, ne_eqb, le-leb, and_from, and_parts, cond-true, cond-false, cond_both}
 use Rattle.std.proofs.lemmas.List.{map-set, length-map, length-set, get_or-map}
 use Rattle.messages.specs.declared.Message.{Message}
 use Rattle.messages.specs.Messages.{Letter, letter}
-use Rattle.runs.specs.declared.events.Fate.{Fate}
+use Rattle.stations.specs.Deeds.{option}
+use Rattle.stations.specs.declared.unheard.Unheard.{Unheard}
+use Rattle.stations.specs.Unheards.{turned}
 use Rattle.runs.specs.Worlds as worlds
 use Rattle.runs.specs.Worlds.{World, fresh, put_at, there}
 use Rattle.levels.specs.Verdicts.{Verdict, Number, Bad, Memory}
@@ -16,8 +18,7 @@ use Rattle.waters.specs.Numbers.{numbered}
 use Rattle.berths.specs.Calls.{Refuses}
 use Rattle.berths.specs.Ports.{port_of}
 use Rattle.waters.specs.declared.waters.Waters.{Waters}
-use Rattle.waters.specs.declared.waters.orders.Order.{Order}
-use Rattle.waters.specs.Waters.{vessel_at, sent, world, ordered, ordering, sailed}
+use Rattle.waters.specs.Waters.{vessel_at, sent, world, asking, sailed, Obeys}
 
 -- its number is kept
 pub numbered_set : (n i : ℕ) (vs : List Vessel) (v u : Vessel) → i < length vs → v ≡ get_or vs i v → call_sign u ≡ call_sign v → numbered n vs ≡ true → numbered n (set vs i u) ≡ true
@@ -78,41 +79,48 @@ boat_at vs i v l e = at_place vs i ∙ get_or-map vessel_of vs i v fresh l ∙ a
 pub boats_same : (vs : List Vessel) (i : ℕ) (v u : Vessel) → i < length vs → v ≡ get_or vs i v → vessel_of u ≡ vessel_of v → vessel_at (set vs i u) ≡ vessel_at vs
 boats_same vs i v u l e s = boats_put vs i u l ∙ fun_ext (λ b. cond_both (eqb b (suc i)) (vessel_of u) (vessel_at vs b) (λ x. x ≡ vessel_at vs b) (λ h. s ∙ sym (boat_at vs i v l e) ∙ ap (vessel_at vs) (sym (eqb-true b (suc i) h))) (λ h. refl))
 
--- what a boat does when it is told to, in the world
-pub ordered_is : (w : Waters) (b : ℕ) (o : Order) (f : Fate) (v : Vessel) → 1 ≤ b → b - 1 < length (vec_items w.vessels) → v ≡ get_or (vec_items w.vessels) (b - 1) v → ordering (world w) b o f ≡ sailed (world w) b (ordered (call_sign v) o f (vessel_of v))
-ordered_is w b o f v low l e =
-    let vs : List Vessel = vec_items w.vessels in
-    let m : suc (b - 1) ≡ b = omega arith in
-    let n : call_sign v ≡ b = sign_at 1 (b - 1) vs v l e w.numbers ∙ omega arith in
-    let t : there (world w) b ≡ true = and_from (leb 1 b) (leb b (length vs)) (le-leb 1 b low) (le-leb b (length vs) (omega arith)) in
-    let x : vessel_at vs b ≡ vessel_of v = ap (vessel_at vs) (sym m) ∙ boat_at vs (b - 1) v l e in
-    cond-true (there (world w) b) (sailed (world w) b (ordered b o f (vessel_at vs b))) (Err Bad) t
-    ∙ ap (λ (y : worlds.Vessel). sailed (world w) b (ordered b o f y)) x
-    ∙ ap (λ (c : ℕ). sailed (world w) b (ordered c o f (vessel_of v))) (sym n)
+module _ (w : Waters) (i : ℕ) (v : Vessel) (l : i < length (vec_items w.vessels)) (e : v ≡ get_or (vec_items w.vessels) i v) where
+  -- what a boat that is asked for something does, in the world
+  asked_is : (want : ℕ → worlds.Vessel → Result (List Letter × worlds.Vessel) Verdict) → asking (world w) (suc i) want ≡ sailed (world w) (suc i) (want (call_sign v) (vessel_of v))
+  asked_is want =
+      let vs : List Vessel = vec_items w.vessels in
+      let n : call_sign v ≡ suc i = sign_at 1 i vs v l e w.numbers ∙ omega arith in
+      let t : there (world w) (suc i) ≡ true = and_from (leb 1 (suc i)) (leb (suc i) (length vs)) (le-leb 1 (suc i) (omega arith)) (le-leb (suc i) (length vs) (omega arith)) in
+      cond-true (there (world w) (suc i)) (sailed (world w) (suc i) (want (suc i) (vessel_at vs (suc i)))) (Err Bad) t
+      ∙ ap (λ (y : worlds.Vessel). sailed (world w) (suc i) (want (suc i) y)) (boat_at vs i v l e)
+      ∙ ap (λ (c : ℕ). sailed (world w) (suc i) (want c (vessel_of v))) (sym n)
 
--- the world after that, where it is done
-pub sailed_is : (w : Waters) (b : ℕ) (o : Order) (f : Fate) (v u : Vessel) (ls : List Letter) (ms : List Message) → 1 ≤ b → b - 1 < length (vec_items w.vessels) → v ≡ get_or (vec_items w.vessels) (b - 1) v → map letter ms ≡ map letter (vec_items w.notices) ++ ls → ordered (call_sign v) o f (vessel_of v) ≡ Ok (ls, vessel_of u) → ordering (world w) b o f ≡ Ok (record { count = length (set (vec_items w.vessels) (b - 1) u); boat = vessel_at (set (vec_items w.vessels) (b - 1) u); harbour = port_of w.port; words = map sent (vec_items w.words); notices = map letter ms })
-sailed_is w b o f v u ls ms low l e s d =
-    let vs : List Vessel = vec_items w.vessels in
-    let m : suc (b - 1) ≡ b = omega arith in
-    let p : put_at b (vessel_of u) (vessel_at vs) ≡ vessel_at (set vs (b - 1) u) = ap (λ (j : ℕ). put_at j (vessel_of u) (vessel_at vs)) (sym m) ∙ sym (boats_put vs (b - 1) u l) in
-    let F : (n : ℕ) → (ℕ → worlds.Vessel) → List Letter → Result World Verdict = λ n g ns. Ok (record { count = n; boat = g; harbour = port_of w.port; words = map sent (vec_items w.words); notices = ns }) in
-    ordered_is w b o f v low l e
-    ∙ ap (sailed (world w) b) d
-    ∙ ap (λ (n : ℕ). F n (put_at b (vessel_of u) (vessel_at vs)) (map letter (vec_items w.notices) ++ ls)) (sym (length-set vs (b - 1) u))
-    ∙ ap (λ g. F (length (set vs (b - 1) u)) g (map letter (vec_items w.notices) ++ ls)) p
-    ∙ ap (F (length (set vs (b - 1) u)) (vessel_at (set vs (b - 1) u))) (sym s)
+  -- where it is not done, all is as it was
+  turned_is : (want : ℕ → worlds.Vessel → Result (List Letter × worlds.Vessel) Verdict) (d : Verdict) → Refuses (want (call_sign v) (vessel_of v)) d → Refuses (asking (world w) (suc i) want) d
+  turned_is want (Number n) d = asked_is want ∙ ap (sailed (world w) (suc i)) d
+  turned_is want Bad d = asked_is want ∙ ap (sailed (world w) (suc i)) d
+  turned_is want Memory d = tt
 
--- where it is not done, all is as it was
-pub turned_is : (w : Waters) (b : ℕ) (o : Order) (f : Fate) (v : Vessel) (e : Verdict) → 1 ≤ b → b - 1 < length (vec_items w.vessels) → v ≡ get_or (vec_items w.vessels) (b - 1) v → Refuses (ordered (call_sign v) o f (vessel_of v)) e → Refuses (ordering (world w) b o f) e
-turned_is w b o f v (Number n) low l h d = ordered_is w b o f v low l h ∙ ap (sailed (world w) b) d
-turned_is w b o f v Bad low l h d = ordered_is w b o f v low l h ∙ ap (sailed (world w) b) d
-turned_is w b o f v Memory low l h d = tt
+  module _ (act : Vessel → Result (Option Message) Unheard → Vessel → Type 0) (b : ℕ) (u : Vessel) (ms : List Message) (p : suc i ≡ b) where
+    abbrev now : World
+    now = record { count = length (set (vec_items w.vessels) i u); boat = vessel_at (set (vec_items w.vessels) i u); harbour = port_of w.port; words = map sent (vec_items w.words); notices = map letter ms }
 
-pub kept_is : (w : Waters) (i : ℕ) (v u : Vessel) (ms : List Message) → i < length (vec_items w.vessels) → v ≡ get_or (vec_items w.vessels) i v → vessel_of u ≡ vessel_of v → ms ≡ vec_items w.notices → record { count = length (set (vec_items w.vessels) i u); boat = vessel_at (set (vec_items w.vessels) i u); harbour = port_of w.port; words = map sent (vec_items w.words); notices = map letter ms } ≡ world w
-kept_is w i v u ms l e s m =
-    let vs : List Vessel = vec_items w.vessels in
-    let F : ℕ → (ℕ → worlds.Vessel) → List Letter → World = λ n g ns. record { count = n; boat = g; harbour = port_of w.port; words = map sent (vec_items w.words); notices = ns } in
-    ap (λ (n : ℕ). F n (vessel_at (set vs i u)) (map letter ms)) (length-set vs i u)
-    ∙ ap (λ g. F (length vs) g (map letter ms)) (boats_same vs i v u l e s)
-    ∙ ap (λ ns. F (length vs) (vessel_at vs) ns) (ap (map letter) m)
+    -- it is done
+    pub performed : (a : Option Message) → act v (Ok a) u → map letter ms ≡ map letter (vec_items w.notices) ++ option letter a → Obeys act b (Ok tt) (world w) now
+    performed a t s = subst (λ (c : ℕ). Obeys act c (Ok tt) (world w) now) p go
+      where
+        go : Obeys act (suc i) (Ok tt) (world w) now
+        go want h =
+            let vs : List Vessel = vec_items w.vessels in
+            let F : ℕ → (ℕ → worlds.Vessel) → List Letter → Result World Verdict = λ n g ns. Ok (record { count = n; boat = g; harbour = port_of w.port; words = map sent (vec_items w.words); notices = ns }) in
+            asked_is want
+            ∙ ap (sailed (world w) (suc i)) (h v (Ok a) u t)
+            ∙ ap (λ (n : ℕ). F n (put_at (suc i) (vessel_of u) (vessel_at vs)) (map letter (vec_items w.notices) ++ option letter a)) (sym (length-set vs i u))
+            ∙ ap (λ g. F (length (set vs i u)) g (map letter (vec_items w.notices) ++ option letter a)) (sym (boats_put vs i u l))
+            ∙ ap (F (length (set vs i u)) (vessel_at (set vs i u))) (sym s)
+
+    -- it is refused
+    pub declined : (d : Unheard) → act v (Err d) u → ms ≡ vec_items w.notices → Obeys act b (Err d) (world w) now
+    declined d t m = subst (λ (c : ℕ). Obeys act c (Err d) (world w) now) p go
+      where
+        go : Obeys act (suc i) (Err d) (world w) now
+        go want h =
+            let vs : List Vessel = vec_items w.vessels in
+            let k : Refuses (want (call_sign v) (vessel_of v)) (turned d) × (vessel_of u ≡ vessel_of v) = h v (Err d) u t in
+            let F : ℕ → (ℕ → worlds.Vessel) → List Letter → World = λ n g ns. record { count = n; boat = g; harbour = port_of w.port; words = map sent (vec_items w.words); notices = ns } in
+            (turned_is want (turned d) k.0, ap (λ (n : ℕ). F n (vessel_at (set vs i u)) (map letter ms)) (length-set vs i u) ∙ ap (λ g. F (length vs) g (map letter ms)) (boats_same vs i v u l e k.1) ∙ ap (λ ns. F (length vs) (vessel_at vs) ns) (ap (map letter) m))

@@ -1,27 +1,23 @@
 // What a boat does with each input, on its file too, and how far it comes. What is refused changes nothing.
-ghost use Rattle.std.specs.Prelude.{◌≡◌, ◌<◌, Ok, vec_len, vec_capacity};
+ghost use Rattle.std.specs.Prelude.{◌≡◌, Ok};
 ghost use Rattle.forms.specs.Said.{said};
 ghost use Rattle.messages.specs.Messages.{letter};
-ghost use Rattle.records.specs.Records.{written};
-ghost use Rattle.boats.specs.Views.{memory, number_of};
 ghost use Rattle.stations.specs.Boats as spec;
 ghost use Rattle.stations.specs.Deeds.{nothing, option};
-ghost use Rattle.runs.specs.Disks.{file, told};
-ghost use Rattle.runs.specs.Worlds.{vessel_after};
-ghost use Rattle.berths.specs.Disks.{disk};
+ghost use Rattle.runs.specs.Disks.{file};
 ghost use Rattle.berths.specs.Calls.{Attempts, Heeds};
 ghost use Rattle.berths.specs.Vessels.{vessel_of, call_sign, afloat, stepped, begun, Built};
 
 use super::Vessel;
+use crate::berth::Berth;
+use crate::doing::NOTHING;
 use crate::journal::Journal;
-use crate::journal::effects::{lives, told};
 use boats::boat::Boat;
 use forms::word::Spoken;
 use levels::numbers::{BoatId, Program};
 use levels::refusals::Refusal;
 use messages::Message;
 use runs::events::Fate;
-use stations::step::Step;
 use stations::unheard::Unheard;
 use std::alloc::Global;
 
@@ -34,23 +30,13 @@ impl Vessel {
         let program = Program(1);
         let (boat, _) = Boat::open(heap, number, program, journal.file())?;
         Ok(Vessel {
-            journal,
+            number,
             program,
-            up: true,
-            boat,
+            berth: Berth {
+                journal,
+                station: Some(boat),
+            },
         })
-    }
-
-    // A step comes as far as its fate lets it.
-    fn settle(&mut self, step: Step, syncs: bool, fate: Fate) -> Option<Message>
-        requires { vec_len self.old.journal.records < vec_capacity self.old.journal.records }
-        ensures after { vessel_of self.new ≡ vessel_after fate syncs (option written step.«record») (memory self.old.boat) (vessel_of self.old) }
-        ensures told { option letter result ≡ Rattle.runs.specs.Disks.told fate syncs (option letter step.message) }
-        ensures same { call_sign self.new ≡ call_sign self.old }
-    {
-        self.journal.perform(fate, syncs, step.record);
-        self.up = lives(fate);
-        told(fate, syncs, step.message)
     }
 
     // A message comes.
@@ -58,12 +44,7 @@ impl Vessel {
         ensures done { Heeds (option letter) (afloat (vessel_of self.old).running (λ m. stepped fate (vessel_of self.old) (spec.hearing (call_sign self.old) m (letter message)))) result (vessel_of self.old) (vessel_of self.new) }
         ensures same { call_sign self.new ≡ call_sign self.old }
     {
-        if !self.up {
-            return Err(Unheard::Refused(Refusal::Invalid));
-        }
-        self.journal.reserve()?;
-        let step = self.boat.hear(message)?;
-        Ok(self.settle(step, step.record.is_some(), fate))
+        self.berth.act(fate, |boat| boat.hear(message))
     }
 
     // It promises not to go below the program that it runs.
@@ -71,12 +52,7 @@ impl Vessel {
         ensures done { Attempts (option letter) (afloat (vessel_of self.old).running (λ m. stepped fate (vessel_of self.old) (Ok (spec.promising (call_sign self.old) m)))) result (vessel_of self.old) (vessel_of self.new) }
         ensures same { call_sign self.new ≡ call_sign self.old }
     {
-        if !self.up {
-            return Err(Refusal::Invalid);
-        }
-        self.journal.reserve()?;
-        let step = self.boat.promise();
-        Ok(self.settle(step, step.record.is_some(), fate))
+        self.berth.act(fate, |boat| Ok(boat.promise()))
     }
 
     // It tells its promise again, if that is not answered yet.
@@ -84,12 +60,7 @@ impl Vessel {
         ensures done { Attempts (option letter) (afloat (vessel_of self.old).running (λ m. stepped fate (vessel_of self.old) (Ok (spec.ticking (call_sign self.old) m, m)))) result (vessel_of self.old) (vessel_of self.new) }
         ensures same { call_sign self.new ≡ call_sign self.old }
     {
-        if !self.up {
-            return Err(Refusal::Invalid);
-        }
-        self.journal.reserve()?;
-        let step = self.boat.tick();
-        Ok(self.settle(step, step.record.is_some(), fate))
+        self.berth.act(fate, |boat| Ok(boat.tick()))
     }
 
     // Nothing is done; its fate alone counts.
@@ -97,15 +68,7 @@ impl Vessel {
         ensures done { Attempts (option letter) (afloat (vessel_of self.old).running (λ m. stepped fate (vessel_of self.old) (Ok (nothing, m)))) result (vessel_of self.old) (vessel_of self.new) }
         ensures same { call_sign self.new ≡ call_sign self.old }
     {
-        if !self.up {
-            return Err(Refusal::Invalid);
-        }
-        self.journal.reserve()?;
-        let step = Step {
-            record: None,
-            message: None,
-        };
-        Ok(self.settle(step, false, fate))
+        self.berth.act(fate, |_| Ok(NOTHING))
     }
 
     // A word is given to be said to a boat.
@@ -113,12 +76,7 @@ impl Vessel {
         ensures done { Attempts (option letter) (afloat (vessel_of self.old).running (λ m. stepped fate (vessel_of self.old) (spec.talking (call_sign self.old) to.0 m (said word)))) result (vessel_of self.old) (vessel_of self.new) }
         ensures same { call_sign self.new ≡ call_sign self.old }
     {
-        if !self.up {
-            return Err(Refusal::Invalid);
-        }
-        self.journal.reserve()?;
-        let step = self.boat.say(to, word)?;
-        Ok(self.settle(step, step.record.is_some(), fate))
+        self.berth.act(fate, |boat| boat.say(to, word))
     }
 
     // A program begins over its file; what ran ends.
@@ -131,10 +89,11 @@ impl Vessel {
         ensures done { Attempts (option letter) (begun fate program.0 (vessel_of self.old) (spec.starting (call_sign self.old) program.0 (file (vessel_of self.old).disk))) result (vessel_of self.old) (vessel_of self.new) }
         ensures same { call_sign self.new ≡ call_sign self.old }
     {
-        self.journal.reserve()?;
-        let (boat, step) = Boat::open(heap, self.boat.number(), program, self.journal.file())?;
-        self.boat = boat;
+        let number = self.number;
+        let told = self
+            .berth
+            .begin(fate, |file| Boat::open(heap, number, program, file))?;
         self.program = program;
-        Ok(self.settle(step, true, fate))
+        Ok(told)
     }
 }

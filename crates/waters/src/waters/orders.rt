@@ -1,10 +1,9 @@
-// What the boats do.
-ghost use Rattle.std.specs.Prelude.{◌≡◌, ◌<◌, ◌++◌, map, vec_len, vec_capacity};
+// What the boats do when they are told to.
+ghost use Rattle.std.specs.Prelude.{◌≡◌, Option, Result};
+ghost use Rattle.std.specs.Fn.{FnOnceReturnsAtMut};
 ghost use Rattle.messages.specs.Messages.{letter};
-ghost use Rattle.stations.specs.Deeds.{option};
-ghost use Rattle.berths.specs.Calls.{Heeds};
-ghost use Rattle.berths.specs.Vessels.{vessel_of, call_sign};
-ghost use Rattle.waters.specs.Waters.{world, Plays, ordered, ordering};
+ghost use Rattle.berths.specs.Vessels.{call_sign};
+ghost use Rattle.waters.specs.Waters.{world, Plays, Obeys, ordering, Hear, Promise, Tick, Rest, Open};
 
 use super::Waters;
 use berths::vessel::Vessel;
@@ -13,56 +12,64 @@ use levels::refusals::Refusal;
 use messages::Message;
 use runs::events::Fate;
 use stations::unheard::Unheard;
-use std::alloc::Global;
-
-// What a boat may be told to do that is answered by a notice at most.
-#[derive(Clone, Copy)]
-pub enum Order {
-    // hear a message
-    Hear(Message),
-    // promise the program that it runs
-    Promise,
-    // tell its promise again
-    Tick,
-    // nothing
-    Rest,
-    // begin with a program
-    Open(Program),
-}
-
-// A boat does what it is told.
-fn obey(
-    vessel: &mut Vessel,
-    heap: Global,
-    order: Order,
-    fate: Fate,
-) -> Result<Option<Message>, Unheard>
-    ensures done { Heeds (option letter) (ordered (call_sign vessel.old) order fate (vessel_of vessel.old)) result (vessel_of vessel.old) (vessel_of vessel.new) }
-    ensures same { call_sign vessel.new ≡ call_sign vessel.old }
-{
-    match order {
-        Order::Hear(message) => vessel.hear(message, fate),
-        Order::Promise => Ok(vessel.promise(fate)?),
-        Order::Tick => Ok(vessel.tick(fate)?),
-        Order::Rest => Ok(vessel.rest(fate)?),
-        Order::Open(program) => Ok(vessel.open(heap, program, fate)?),
-    }
-}
 
 impl Waters {
-    // A boat does what it is told, and what it sends is a notice.
-    pub(super) fn order(&mut self, boat: BoatId, order: Order, fate: Fate) -> Result<(), Unheard>
-        ensures { Plays (ordering (world self.old) boat.0 order fate) result (world self.old) (world self.new) }
+    // A boat does something, and what it sends is a notice.
+    fn at_boat<F: FnOnce(&mut Vessel) -> Result<Option<Message>, Unheard>>(
+        &mut self,
+        boat: BoatId,
+        act: F,
+    ) -> Result<(), Unheard>
+        requires callable { F.IsAlwaysCallable act }
+        requires same { (v : _) (r : _) (u : _) → FnOnceReturnsAtMut F.FnOnce act v r u → call_sign u ≡ call_sign v }
+        ensures { Obeys (FnOnceReturnsAtMut F.FnOnce act) boat.0 result (world self.old) (world self.new) }
     {
-        let number = boat.0 as usize;
-        if number < 1 || number > self.vessels.len() {
+        let Some(place) = (boat.0 as usize).checked_sub(1) else {
             return Err(Unheard::Refused(Refusal::Invalid));
-        }
+        };
+        let Some(vessel) = self.vessels.get_mut(place) else {
+            return Err(Unheard::Refused(Refusal::Invalid));
+        };
         self.notices.reserve(1)?;
-        let message = obey(&mut self.vessels[number - 1], self.heap, order, fate)?;
-        if let Some(message) = message {
+        if let Some(message) = act(vessel)? {
             self.notices.push_reserved(message);
         }
         Ok(())
+    }
+
+    // A message comes to a boat.
+    pub(super) fn hear(&mut self, boat: BoatId, message: Message, fate: Fate) -> Result<(), Unheard>
+        ensures { Plays (ordering (world self.old) boat.0 (Hear message) fate) result (world self.old) (world self.new) }
+    {
+        self.at_boat(boat, |vessel| vessel.hear(message, fate))
+    }
+
+    // A boat promises the program that it runs.
+    pub(super) fn promise(&mut self, boat: BoatId, fate: Fate) -> Result<(), Unheard>
+        ensures { Plays (ordering (world self.old) boat.0 Promise fate) result (world self.old) (world self.new) }
+    {
+        self.at_boat(boat, |vessel| Ok(vessel.promise(fate)?))
+    }
+
+    // A boat tells its promise again.
+    pub(super) fn tick(&mut self, boat: BoatId, fate: Fate) -> Result<(), Unheard>
+        ensures { Plays (ordering (world self.old) boat.0 Tick fate) result (world self.old) (world self.new) }
+    {
+        self.at_boat(boat, |vessel| Ok(vessel.tick(fate)?))
+    }
+
+    // A boat does nothing.
+    pub(super) fn rest(&mut self, boat: BoatId, fate: Fate) -> Result<(), Unheard>
+        ensures { Plays (ordering (world self.old) boat.0 Rest fate) result (world self.old) (world self.new) }
+    {
+        self.at_boat(boat, |vessel| Ok(vessel.rest(fate)?))
+    }
+
+    // A boat begins with a program.
+    pub(super) fn open(&mut self, boat: BoatId, program: Program, fate: Fate) -> Result<(), Unheard>
+        ensures { Plays (ordering (world self.old) boat.0 (Open program) fate) result (world self.old) (world self.new) }
+    {
+        let heap = self.heap;
+        self.at_boat(boat, |vessel| Ok(vessel.open(heap, program, fate)?))
     }
 }

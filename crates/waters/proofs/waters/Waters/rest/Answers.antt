@@ -1,0 +1,6 @@
+use Rattle.std.proofs.Common.{rules}
+use Rattle.waters.specs.Waters.{ordered, Rest}
+use Rattle.waters.proofs.waters.Waters.rest.Goals as goal
+
+pub returns : goal.returns
+returns c = c.at_boat.ensures (λ b v. ordered b Rest c.args.fate v) (λ v a u t. search rules)
