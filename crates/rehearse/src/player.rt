@@ -99,9 +99,9 @@ impl Player {
     // The first boat whose program is too old for a level.
     fn first_outdated(&self, level: Level) -> Option<BoatId> {
         let mut boats = self.rehearsal.harbour().boats().keys().copied();
-        boats.find(|boat| match self.standing(*boat) {
-            Some(standing) => standing.program.0 < level.0,
-            None => false,
+        boats.find(|boat| {
+            self.standing(*boat)
+                .is_some_and(|standing| standing.program.0 < level.0)
         })
     }
 
