@@ -1,7 +1,7 @@
 -- What the loops make, step by step, that list the events for a level and play them.
 -- Assumes nothing.
-use Rattle.std.proofs.Common.{◌≡◌, ℕ, ◌+◌, ◌-◌, ◌*◌, ◌<◌, ◌≤◌, Bool, true, ◌&&◌, ◌||◌, ltb, ◌⊎◌, List, [], ◌∷◌, ◌++◌, map, length, get_or, take, drop, is_ok, Ok, Err, vec_items, Result, sym, refl, ap, ◌∙◌, subst, inl, inr, append_assoc, append-nil, arith}
-use Rattle.std.proofs.lemmas.List.{length-map, get_or-map, take_more, at_drop_more}
+use Rattle.std.proofs.Common.{◌≡◌, ℕ, ◌+◌, ◌*◌, ◌<◌, ◌≤◌, Bool, true, ◌&&◌, ◌||◌, ltb, List, [], ◌∷◌, ◌++◌, map, length, get_or, take, drop, is_ok, Ok, Err, Result, sym, refl, ap, ◌∙◌, subst, append_assoc, arith}
+use Rattle.std.proofs.lemmas.List.{take_more, at_drop_more}
 use Rattle.std.proofs.lemmas.Bool.{cond_both}
 use Rattle.std.specs.List.{filter, list_any, range_with_len}
 use Rattle.std.specs.Map.{keys_of, values_of}
@@ -14,15 +14,11 @@ use Rattle.levels.specs.Standings.{first}
 use Rattle.world.specs.declared.events.Event.{Event}
 use Rattle.world.specs.declared.events.Event.TheVariants.{Announce, BringNotice}
 use Rattle.world.specs.declared.messages.Notice.{Notice}
-use Rattle.fleet.specs.declared.fleet.Vessel.{Vessel}
-use Rattle.fleet.specs.declared.fleet.Fleet.{Fleet}
-use Rattle.world.specs.Worlds.{World, fresh, play}
-use Rattle.fleet.specs.Fleets.{world, state, states}
-use Rattle.world.specs.Abstract.{seen, boat_of}
+use Rattle.world.specs.Worlds.{World, play}
+use Rattle.world.specs.Abstract.{boat_of}
 use Rattle.world.specs.Promises.{after, plays}
 use Rattle.world.specs.Rising.{vouching, behind, bringing, outdated, levels_notice, raising, can_raise, taken}
 use Rattle.world.specs.Calls.{Halted}
-use Rattle.fleet.proofs.Views.{nowhere, somewhere}
 use Rattle.world.proofs.Kept.{plays_push}
 use Rattle.world.proofs.Rises.{rising_ok}
 
@@ -43,13 +39,7 @@ pub bringing_numbers : (n : ℕ) (ps : List (BoatId × Program)) → bringing (m
 bringing_numbers n [] = refl
 bringing_numbers n (p ∷ ps) = ap (λ es. BringNotice n ∷ es) (bringing_numbers (n + 1) ps)
 
--- a list that is made from its start: what is there, and what is left
-pub pushed : (was now new rest left all : List Event) → now ≡ was ++ new → left ≡ new ++ rest → was ++ left ≡ all → now ++ rest ≡ all
-pushed was now new rest left all p q r = ap (λ es. es ++ rest) p ∙ append_assoc was new rest ∙ sym (ap (λ es. was ++ es) q) ∙ r
-
-pub finished : (now left all : List Event) → left ≡ [] → now ++ left ≡ all → now ≡ all
-finished now left all q r = sym (append-nil now) ∙ sym (ap (λ es. now ++ es) q) ∙ r
-
+-- a list that three pushes make
 pub three : (a b c d : List Event) (v x y z : Event) → b ≡ a ++ v ∷ [] → v ≡ x → c ≡ b ++ y ∷ [] → d ≡ c ++ z ∷ [] → d ≡ a ++ x ∷ y ∷ z ∷ []
 three a b c d v x y z p e q r =
     r ∙ ap (λ es. es ++ z ∷ []) (q ∙ ap (λ es. es ++ y ∷ []) (p ∙ ap (λ t. a ++ t ∷ []) e) ∙ append_assoc a (x ∷ []) (y ∷ [])) ∙ append_assoc a (x ∷ y ∷ []) (z ∷ [])
@@ -62,20 +52,6 @@ whole k w list ns m a b c d same sent count p q r t =
     let D : ℕ → List Event = λ n. vs ++ Announce (record { 0 = k }) ∷ bringing w.harbour.list n in
     let n : length ns + 2 * m ≡ levels_notice k w = ap (λ x. length x + 2 * m) sent ∙ ap (λ x. length w.notices + 2 * x) (count ∙ ap (behind k) same) in
     t ∙ ap (λ es. es ++ bringing list (length ns + 2 * m)) (r ∙ ap (λ es. es ++ Announce (record { 0 = k }) ∷ []) (q ∙ ap (λ es. es ++ vs) p)) ∙ append_assoc vs (Announce (record { 0 = k }) ∷ []) (bringing list (length ns + 2 * m)) ∙ ap C same ∙ ap D n
-
--- a boat by its number, in what the code reads
-module _ (f : Fleet) (xs : List Vessel) (same : states xs ≡ (world f).boats) where
-  many : length (vec_items f.boats) ≡ length xs
-  many = sym (length-map (vec_items f.boats) state) ∙ sym (ap length same) ∙ length-map xs state
-
-  pub none_there : (b : ℕ) → (b < 1) ⊎ (length xs < b) → boat_of (world f) b ≡ fresh
-  none_there b (inl l) = ap (seen (world f)) (nowhere f b (inl l))
-  none_there b (inr l) = ap (seen (world f)) (nowhere f b (inr (omega (arith, many))))
-
-  pub one_there : (b : ℕ) (d : Vessel) → 1 ≤ b → b ≤ length xs → state (get_or xs (b - 1) d) ≡ boat_of (world f) b
-  one_there b d l m =
-      let lt : b - 1 < length xs = omega arith in
-      sym (ap (seen (world f)) (somewhere f b l (omega (arith, many))) ∙ ap (λ ss. get_or ss (b - 1) fresh) (sym same) ∙ get_or-map state xs (b - 1) d fresh lt)
 
 -- events are played from their start
 pub played_more : (first was now : World) (es : List Event) (i : ℕ) (d : Event) → i < length es → was ≡ plays first (take i es) → play was (get_or es i d) ≡ Ok now → now ≡ plays first (take (i + 1) es)

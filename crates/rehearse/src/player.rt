@@ -95,14 +95,11 @@ impl Player {
 
     // The first boat whose program is too old for a level.
     fn first_outdated(&self, level: Level) -> Option<BoatId> {
-        for listed in self.rehearsal.harbour().boats() {
-            if let Some(standing) = self.standing(listed.boat) {
-                if standing.program.0 < level.0 {
-                    return Some(listed.boat);
-                }
-            }
-        }
-        None
+        let mut boats = self.rehearsal.harbour().boats().keys().copied();
+        boats.find(|boat| {
+            self.standing(*boat)
+                .is_some_and(|standing| standing.program.0 < level.0)
+        })
     }
 
     // The whole fleet is brought to a level.
