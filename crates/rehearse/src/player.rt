@@ -65,8 +65,7 @@ impl Player {
 
     // The standing of a boat, if there is one of that number.
     fn standing(&self, boat: BoatId) -> Option<Standing> {
-        let place = (boat.0 as usize).checked_sub(1)?;
-        let vessel = self.rehearsal.boats().get(place)?;
+        let vessel = self.rehearsal.fleet().boat(boat)?;
         Some(vessel.standing)
     }
 
@@ -98,7 +97,7 @@ impl Player {
 
     // The first boat whose program is too old for a level.
     fn first_outdated(&self, level: Level) -> Option<BoatId> {
-        for listed in self.rehearsal.harbour().boats() {
+        for listed in self.rehearsal.fleet().harbour().boats() {
             if let Some(standing) = self.standing(listed.boat) {
                 if standing.program.0 < level.0 {
                     return Some(listed.boat);
@@ -163,9 +162,9 @@ impl Player {
         ensures { 1 ≤ result.boats }
     {
         Scene {
-            boats: self.rehearsal.boats().len().clamp(1, 8) as u16,
-            words: self.rehearsal.words().len() as u64,
-            notices: self.rehearsal.notices().len() as u64,
+            boats: self.rehearsal.fleet().boats().len().clamp(1, 8) as u16,
+            words: self.rehearsal.fleet().words().len() as u64,
+            notices: self.rehearsal.fleet().notices().len() as u64,
         }
     }
 

@@ -1,5 +1,6 @@
 // The table of the boats.
 use crate::answers::Output;
+use fleet::fleet::Vessel;
 use forms::sent::Sent;
 use levels::numbers::{BoatId, FormNumber, Program};
 use levels::rules::{newest, reads};
@@ -31,9 +32,9 @@ fn is_kept(log: &Logbook, form: FormNumber) -> bool {
 }
 
 // Is there a boat that keeps a word in a form?
-fn in_a_file(logs: &[Logbook], form: FormNumber) -> bool {
-    for log in logs {
-        if is_kept(log, form) {
+fn in_a_file(boats: &[Vessel], form: FormNumber) -> bool {
+    for vessel in boats {
+        if is_kept(&vessel.log, form) {
             return true;
         }
     }
@@ -45,7 +46,7 @@ fn forms_in_use(heap: Global, rehearsal: &Rehearsal) -> Result<Vec<FormNumber>, 
     let mut forms = Vec::new(heap);
     for number in 1..=newest(Program(u32::MAX)).0 {
         let form = FormNumber(number);
-        if on_air(rehearsal.words(), form) || in_a_file(rehearsal.logs(), form) {
+        if on_air(rehearsal.fleet().words(), form) || in_a_file(rehearsal.fleet().boats(), form) {
             forms.push(form)?;
         }
     }
@@ -54,10 +55,7 @@ fn forms_in_use(heap: Global, rehearsal: &Rehearsal) -> Result<Vec<FormNumber>, 
 
 // Does the boat that a word is for read it now?
 fn can_be_read(rehearsal: &Rehearsal, word: Sent) -> bool {
-    let Some(place) = (word.to.0 as usize).checked_sub(1) else {
-        return false;
-    };
-    match rehearsal.boats().get(place) {
+    match rehearsal.fleet().boat(word.to) {
         Some(vessel) => reads(vessel.standing.program, word.spoken.form()),
         None => false,
     }
@@ -65,7 +63,7 @@ fn can_be_read(rehearsal: &Rehearsal, word: Sent) -> bool {
 
 // Can every word that was ever sent be read now?
 fn all_can_be_read(rehearsal: &Rehearsal) -> bool {
-    for word in rehearsal.words() {
+    for word in rehearsal.fleet().words() {
         if !can_be_read(rehearsal, *word) {
             return false;
         }
@@ -75,7 +73,7 @@ fn all_can_be_read(rehearsal: &Rehearsal) -> bool {
 
 // Has the harbour heard the floor of a boat?
 fn is_told(rehearsal: &Rehearsal, boat: u16, standing: Standing) -> bool {
-    match rehearsal.harbour().floor_of(BoatId(boat)) {
+    match rehearsal.fleet().harbour().floor_of(BoatId(boat)) {
         Some(heard) => standing.floor <= heard,
         None => false,
     }
@@ -118,9 +116,9 @@ fn row(
 
 // The last line: what was said, how much was sent, and whether all of it can be read.
 fn footing(rehearsal: &Rehearsal, out: &mut Output) -> io::Result<()> {
-    let said = rehearsal.harbour().said().0;
-    let words = rehearsal.words().len();
-    let notices = rehearsal.notices().len();
+    let said = rehearsal.fleet().harbour().said().0;
+    let words = rehearsal.fleet().words().len();
+    let notices = rehearsal.fleet().notices().len();
     let verdict = if all_can_be_read(rehearsal) {
         "every word can be read"
     } else {
@@ -137,7 +135,7 @@ pub(crate) fn print(heap: Global, rehearsal: &Rehearsal, out: &mut Output) -> io
     let forms = forms_in_use(heap, rehearsal)?;
     heading(forms.as_slice(), out)?;
     let mut boat: u16 = 0;
-    for vessel in rehearsal.boats() {
+    for vessel in rehearsal.fleet().boats() {
         boat = boat.saturating_add(1);
         row(rehearsal, boat, vessel.standing, forms.as_slice(), out)?;
     }

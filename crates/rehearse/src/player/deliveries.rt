@@ -9,14 +9,14 @@ impl Player {
     // The first message that has no fate yet, and what it says. No step sends both words and notices.
     fn next_sent(&self) -> Option<(Message, Text)> {
         let words = self.words.len();
-        if let Some(word) = self.rehearsal.words().get(words) {
+        if let Some(word) = self.rehearsal.fleet().words().get(words) {
             return Some((
                 Message::Word((words as u64).saturating_add(1)),
                 Text::of_word(*word),
             ));
         }
         let notices = self.notices.len();
-        if let Some(notice) = self.rehearsal.notices().get(notices) {
+        if let Some(notice) = self.rehearsal.fleet().notices().get(notices) {
             return Some((
                 Message::Notice((notices as u64).saturating_add(1)),
                 Text::of_notice(*notice),

@@ -53,7 +53,7 @@ impl Player {
     // Which boat has not promised the level of an event.
     fn lacking(&self, event: Event) -> Reason {
         if let Event::Announce { level } = event {
-            if let Some(boat) = self.rehearsal.harbour().first_without(level) {
+            if let Some(boat) = self.rehearsal.fleet().harbour().first_without(level) {
                 return Reason::NotPromised(boat);
             }
         }
