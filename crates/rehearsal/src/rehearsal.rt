@@ -5,7 +5,6 @@ ghost use Rattle.world.specs.Promises.{Reached};
 use fleet::fleet::Fleet;
 
 mod plays;
-mod reads;
 mod rising;
 
 // There are events that have made the fleet what it is, from the start.

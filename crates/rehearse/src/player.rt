@@ -2,6 +2,7 @@
 ghost use Rattle.std.specs.Prelude.{◌≤◌};
 
 use crate::answers::{Answer, Output, Reason, Refused};
+use fleet::fleet::Fleet;
 use levels::numbers::{BoatId, Level};
 use levels::refusals::Refusal;
 use levels::standing::Standing;
@@ -57,15 +58,14 @@ impl Player {
         })
     }
 
-    // The rehearsal as it stands.
-    pub(crate) fn rehearsal(&self) -> &Rehearsal {
-        &self.rehearsal
+    // The fleet as it stands.
+    pub(crate) fn fleet(&self) -> &Fleet {
+        self.rehearsal.fleet()
     }
 
     // The standing of a boat, if there is one of that number.
     fn standing(&self, boat: BoatId) -> Option<Standing> {
-        let place = (boat.0 as usize).checked_sub(1)?;
-        let vessel = self.rehearsal.boats().get(place)?;
+        let vessel = self.fleet().boat(boat)?;
         Some(vessel.standing)
     }
 
@@ -95,7 +95,7 @@ impl Player {
 
     // The first boat whose program is too old for a level.
     fn first_outdated(&self, level: Level) -> Option<BoatId> {
-        let mut boats = self.rehearsal.harbour().boats().keys().copied();
+        let mut boats = self.fleet().harbour().boats().keys().copied();
         boats.find(|boat| {
             self.standing(*boat)
                 .is_some_and(|standing| standing.program.0 < level.0)
@@ -157,9 +157,9 @@ impl Player {
         ensures { 1 ≤ result.boats }
     {
         Scene {
-            boats: self.rehearsal.boats().len().clamp(1, 8) as u16,
-            words: self.rehearsal.words().len() as u64,
-            notices: self.rehearsal.notices().len() as u64,
+            boats: self.fleet().boats().len().clamp(1, 8) as u16,
+            words: self.fleet().words().len() as u64,
+            notices: self.fleet().notices().len() as u64,
         }
     }
 

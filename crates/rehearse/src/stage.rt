@@ -72,7 +72,7 @@ impl Stage {
             }
             Command::Read => {
                 writeln!(self.out, "{echo}: ok")?;
-                let table = Table::new(self.heap, player.rehearsal())?;
+                let table = Table::new(self.heap, player.fleet())?;
                 write!(self.out, "{table}")
             }
             Command::Play(step) => player.step(step, echo, &mut self.out),
@@ -100,7 +100,7 @@ impl Stage {
     // Prints the table at the end, if there are boats.
     pub(crate) fn end(&mut self) -> io::Result<()> {
         if let Some(player) = &self.player {
-            let table = Table::new(self.heap, player.rehearsal())?;
+            let table = Table::new(self.heap, player.fleet())?;
             write!(self.out, "{table}")?;
         }
         self.out.flush()

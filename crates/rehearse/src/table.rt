@@ -1,10 +1,10 @@
 // The table of the boats.
+use fleet::fleet::{Fleet, Vessel};
 use forms::sent::Sent;
 use levels::numbers::{BoatId, FormNumber, Program};
 use levels::rules::{newest, reads};
 use levels::standing::Standing;
 use logbooks::log::Logbook;
-use rehearsal::rehearsal::Rehearsal;
 use std::alloc::{AllocError, Global};
 use std::fmt;
 
@@ -19,35 +19,29 @@ fn is_kept(log: &Logbook, form: FormNumber) -> bool {
 }
 
 // Is there a boat that keeps a word in a form?
-fn in_a_file(logs: &[Logbook], form: FormNumber) -> bool {
-    logs.iter().any(|log| is_kept(log, form))
+fn in_a_file(boats: &[Vessel], form: FormNumber) -> bool {
+    boats.iter().any(|vessel| is_kept(&vessel.log, form))
 }
 
 // The forms that are on the air or kept by some boat, of those that any program writes.
-fn forms_in_use(heap: Global, rehearsal: &Rehearsal) -> Result<Vec<FormNumber>, AllocError> {
+fn forms_in_use(heap: Global, fleet: &Fleet) -> Result<Vec<FormNumber>, AllocError> {
     (1..=newest(Program(u32::MAX)).0)
         .map(FormNumber)
-        .filter(|form| on_air(rehearsal.words(), *form) || in_a_file(rehearsal.logs(), *form))
+        .filter(|form| on_air(fleet.words(), *form) || in_a_file(fleet.boats(), *form))
         .collect(heap)
 }
 
 // Does the boat that a word is for read it now?
-fn can_be_read(rehearsal: &Rehearsal, word: Sent) -> bool {
-    let Some(place) = (word.to.0 as usize).checked_sub(1) else {
-        return false;
-    };
-    match rehearsal.boats().get(place) {
+fn can_be_read(fleet: &Fleet, word: Sent) -> bool {
+    match fleet.boat(word.to) {
         Some(vessel) => reads(vessel.standing.program, word.spoken.form()),
         None => false,
     }
 }
 
 // Can every word that was ever sent be read now?
-fn all_can_be_read(rehearsal: &Rehearsal) -> bool {
-    rehearsal
-        .words()
-        .iter()
-        .all(|word| can_be_read(rehearsal, *word))
+fn all_can_be_read(fleet: &Fleet) -> bool {
+    fleet.words().iter().all(|word| can_be_read(fleet, *word))
 }
 
 // A truth as it is printed.
@@ -58,22 +52,22 @@ fn yes_no(truth: bool) -> &'static str {
 // The boats of a rehearsal, and the forms in use.
 #[derive(Drop)]
 pub struct Table<'a> {
-    rehearsal: &'a Rehearsal,
+    fleet: &'a Fleet,
     forms: Vec<FormNumber>,
 }
 
 impl<'a> Table<'a> {
     // The table of a rehearsal as it stands.
-    pub(crate) fn new(heap: Global, rehearsal: &'a Rehearsal) -> Result<Table<'a>, AllocError> {
+    pub(crate) fn new(heap: Global, fleet: &'a Fleet) -> Result<Table<'a>, AllocError> {
         Ok(Table {
-            rehearsal,
-            forms: forms_in_use(heap, rehearsal)?,
+            fleet,
+            forms: forms_in_use(heap, fleet)?,
         })
     }
 
     // Has the harbour heard the floor of a boat?
     fn is_told(&self, boat: BoatId, standing: Standing) -> bool {
-        self.rehearsal
+        self.fleet
             .harbour()
             .floor_of(boat)
             .is_some_and(|heard| standing.floor <= heard)
@@ -111,10 +105,10 @@ impl<'a> Table<'a> {
 
     // The last line: what was said, how much was sent, and whether all of it can be read.
     fn footing<W: fmt::Write>(&self, f: &mut fmt::Formatter<W>) -> fmt::Result {
-        let said = self.rehearsal.harbour().said();
-        let words = self.rehearsal.words().len();
-        let notices = self.rehearsal.notices().len();
-        let verdict = if all_can_be_read(self.rehearsal) {
+        let said = self.fleet.harbour().said();
+        let words = self.fleet.words().len();
+        let notices = self.fleet.notices().len();
+        let verdict = if all_can_be_read(self.fleet) {
             "every word can be read"
         } else {
             "NOT EVERY WORD CAN BE READ"
@@ -129,7 +123,7 @@ impl<'a> Table<'a> {
 impl fmt::Display for Table<'_> {
     fn fmt<W: fmt::Write>(&self, f: &mut fmt::Formatter<W>) -> fmt::Result {
         self.heading(f)?;
-        for (boat, vessel) in (1..=u16::MAX).zip(self.rehearsal.boats()) {
+        for (boat, vessel) in (1..=u16::MAX).zip(self.fleet.boats()) {
             self.row(BoatId(boat), vessel.standing, f)?;
         }
         self.footing(f)

@@ -10,11 +10,11 @@ impl Player {
     // The first message that has no fate yet, and what it says. No step sends both words and notices.
     fn next_sent(&self) -> Option<(Message, Text)> {
         let words = self.words.len();
-        if let Some(word) = self.rehearsal.words().get(words) {
+        if let Some(word) = self.fleet().words().get(words) {
             return Some((Message::Word(words as u64 + 1), Text::Word(*word)));
         }
         let notices = self.notices.len();
-        let notice = self.rehearsal.notices().get(notices)?;
+        let notice = self.fleet().notices().get(notices)?;
         Some((Message::Notice(notices as u64 + 1), Text::Notice(*notice)))
     }
 

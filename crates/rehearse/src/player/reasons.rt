@@ -46,7 +46,7 @@ impl Player {
     // Which boat has not promised the level of an event.
     fn lacking(&self, event: Event) -> Reason {
         if let Event::Announce { level } = event
-            && let Some(boat) = self.rehearsal.harbour().first_without(level)
+            && let Some(boat) = self.fleet().harbour().first_without(level)
         {
             return Reason::NotPromised(boat);
         }

@@ -16,20 +16,13 @@ impl Player {
 
     // A line for each ship of which the boat has taken a word.
     pub(super) fn show(&self, boat: BoatId, out: &mut Output) -> io::Result<()> {
-        let Some(standing) = self.standing(boat) else {
+        let Some(vessel) = self.fleet().boat(boat) else {
             return Ok(());
         };
-        let Some(log) = self
-            .rehearsal
-            .logs()
-            .get((boat.0 as usize).saturating_sub(1))
-        else {
-            return Ok(());
-        };
-        for ship in log.ships() {
+        for ship in vessel.log.ships() {
             let slot = &ship.slot;
             let line = Line {
-                shown: show(standing.program, slot.shown()),
+                shown: show(vessel.standing.program, slot.shown()),
                 from: slot.from,
                 number: slot.number,
             };
