@@ -34,6 +34,7 @@ stepping b ms = cond (nat_lt 0 (length b)) (Append b ∷ Sync ∷ sends ms) (sen
 abbrev pub opening : {Z : Type 0} → ℕ → List (Vec ℕ Z) → List Effect
 opening n ms = CutBack n ∷ Sync ∷ sends ms
 
+-- the same of the code's step and opening
 abbrev pub step_plan : Step → List Effect
 step_plan s = stepping s.bytes.now s.messages.now
 
