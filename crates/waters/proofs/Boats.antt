@@ -21,7 +21,7 @@ use Rattle.waters.specs.declared.waters.Waters.{Waters}
 use Rattle.waters.specs.Waters.{vessel_at, sent, world, asking, sailed, Obeys}
 
 -- its number is kept
-pub numbered_set : (n i : ℕ) (vs : List Vessel) (v u : Vessel) → i < length vs → v ≡ get_or vs i v → call_sign u ≡ call_sign v → numbered n vs ≡ true → numbered n (set vs i u) ≡ true
+numbered_set : (n i : ℕ) (vs : List Vessel) (v u : Vessel) → i < length vs → v ≡ get_or vs i v → call_sign u ≡ call_sign v → numbered n vs ≡ true → numbered n (set vs i u) ≡ true
 numbered_set n i [] v u l e s h = absurd (omega arith)
 numbered_set n zero (x ∷ xs) v u l e s h =
     ap (λ (c : ℕ). eqb c n && numbered (suc n) xs) (s ∙ ap call_sign e) ∙ h
@@ -80,6 +80,10 @@ pub boats_same : (vs : List Vessel) (i : ℕ) (v u : Vessel) → i < length vs �
 boats_same vs i v u l e s = boats_put vs i u l ∙ fun_ext (λ b. cond_both (eqb b (suc i)) (vessel_of u) (vessel_at vs b) (λ x. x ≡ vessel_at vs b) (λ h. s ∙ sym (boat_at vs i v l e) ∙ ap (vessel_at vs) (sym (eqb-true b (suc i) h))) (λ h. refl))
 
 module _ (w : Waters) (i : ℕ) (v : Vessel) (l : i < length (vec_items w.vessels)) (e : v ≡ get_or (vec_items w.vessels) i v) where
+  -- the boats are numbered as before
+  pub still_numbered : (u : Vessel) → call_sign u ≡ call_sign v → numbered 1 (set (vec_items w.vessels) i u) ≡ true
+  still_numbered u s = numbered_set 1 i (vec_items w.vessels) v u l e s w.numbers
+
   -- what a boat that is asked for something does, in the world
   asked_is : (want : ℕ → worlds.Vessel → Result (List Letter × worlds.Vessel) Verdict) → asking (world w) (suc i) want ≡ sailed (world w) (suc i) (want (call_sign v) (vessel_of v))
   asked_is want =

@@ -1,5 +1,5 @@
 // What the boats do when they are told to.
-ghost use Rattle.std.specs.Prelude.{◌≡◌, Option, Result};
+ghost use Rattle.std.specs.Prelude.{◌≡◌};
 ghost use Rattle.std.specs.Fn.{FnOnceReturnsAtMut};
 ghost use Rattle.messages.specs.Messages.{letter};
 ghost use Rattle.berths.specs.Vessels.{call_sign};
