@@ -11,12 +11,6 @@ use messages::Message;
 use records::Record;
 use stations::step::{Call, Step};
 
-// A step in which nothing is done.
-pub(crate) const NOTHING: Step = Step {
-    record: None,
-    message: None,
-};
-
 // It writes a record or none, and says something.
 pub(crate) trait Doing: Drop {
     type Said;
@@ -45,7 +39,7 @@ impl Doing for Step {
     }
 
     fn said(self, course: Course) -> Option<Message> {
-        course.told(self.message)
+        course.told(self.messages)
     }
 }
 

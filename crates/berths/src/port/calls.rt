@@ -10,13 +10,13 @@ ghost use Rattle.berths.specs.Ports.{port_of, called, begun, Built};
 
 use super::Port;
 use crate::berth::Berth;
-use crate::doing::NOTHING;
 use crate::journal::Journal;
 use harbours::harbour::Harbour;
 use levels::numbers::{BoatId, Level};
 use levels::refusals::Refusal;
 use messages::Message;
 use runs::events::Fate;
+use stations::step::Step;
 use stations::unheard::Unheard;
 use std::alloc::Global;
 
@@ -60,7 +60,7 @@ impl Port {
     pub fn rest(&mut self, fate: Fate) -> Result<Option<Message>, Refusal>
         ensures { Attempts (option letter) (afloat (port_of self.old).running (λ x. called fate (port_of self.old) (Ok (nothing, x)))) result (port_of self.old) (port_of self.new) }
     {
-        self.berth.act(fate, |_| Ok(NOTHING))
+        self.berth.act(fate, |_| Ok(<Step>::default()))
     }
 
     // Its program begins over its file; what ran ends.
@@ -68,6 +68,6 @@ impl Port {
         ensures { Attempts (option letter) (begun fate (port_of self.old) (spec.opening (file (port_of self.old).disk))) result (port_of self.old) (port_of self.new) }
     {
         self.berth
-            .begin(fate, |file| Ok((Harbour::open(heap, file)?, NOTHING)))
+            .begin(fate, |file| Ok((Harbour::open(heap, file)?, <Step>::default())))
     }
 }

@@ -10,7 +10,6 @@ ghost use Rattle.berths.specs.Vessels.{vessel_of, call_sign, afloat, stepped, be
 
 use super::Vessel;
 use crate::berth::Berth;
-use crate::doing::NOTHING;
 use crate::journal::Journal;
 use boats::boat::Boat;
 use forms::word::Spoken;
@@ -18,6 +17,7 @@ use levels::numbers::{BoatId, Program};
 use levels::refusals::Refusal;
 use messages::Message;
 use runs::events::Fate;
+use stations::step::Step;
 use stations::unheard::Unheard;
 use std::alloc::Global;
 
@@ -68,7 +68,7 @@ impl Vessel {
         ensures done { Attempts (option letter) (afloat (vessel_of self.old).running (λ m. stepped fate (vessel_of self.old) (Ok (nothing, m)))) result (vessel_of self.old) (vessel_of self.new) }
         ensures same { call_sign self.new ≡ call_sign self.old }
     {
-        self.berth.act(fate, |_| Ok(NOTHING))
+        self.berth.act(fate, |_| Ok(<Step>::default()))
     }
 
     // A word is given to be said to a boat.
