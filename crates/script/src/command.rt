@@ -64,7 +64,7 @@ fn name_of(text: &[u8]) -> Result<Name, Fault> {
     Ok(Name::new(name.as_slice()).unwrap())
 }
 
-// The words of a line that are still to be read, one space between two.
+// The words of a line that are still to be read, one space between two. A second name takes the rest as it stands, which the library's `split` does not hand out.
 #[derive(Drop)]
 struct Words<'a> {
     rest: &'a str,

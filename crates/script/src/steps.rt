@@ -34,7 +34,7 @@ impl Message {
     }
 }
 
-// A message by its name in the script.
+// Reads such a name.
 impl FromStr for Message {
     type Err = Fault;
 
