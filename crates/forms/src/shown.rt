@@ -41,5 +41,4 @@ pub fn show(program: Program, spoken: Spoken) -> Shown
 // A program shows of a word just what its own greatest form has of it.
 pub fn shows_its_form_stands()
     ensures { ShowsItsForm }
-{
-}
+{}

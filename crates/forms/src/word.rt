@@ -87,9 +87,8 @@ impl Spoken {
         ensures { result ≡ ship_of (said self) }
     {
         match self {
-            Spoken::First { ship, .. }
-            | Spoken::Second { ship, .. }
-            | Spoken::Third { ship, .. } => ship,
+            Spoken::First { ship, .. } | Spoken::Second { ship, .. } | Spoken::Third { ship, .. } =>
+                ship,
         }
     }
 
@@ -137,5 +136,4 @@ impl Spoken {
 // The laws of putting and reading.
 pub fn laws_stand()
     ensures { Laws }
-{
-}
+{}

@@ -4,5 +4,4 @@ ghost use Rattle.runs.specs.Cases.{CasesHold};
 // Every row of the table of worked cases holds.
 pub fn cases_stand()
     ensures { CasesHold }
-{
-}
+{}

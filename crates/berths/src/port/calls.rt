@@ -67,7 +67,9 @@ impl Port {
     pub fn open(&mut self, heap: Global, fate: Fate) -> Result<Option<Message>, Refusal>
         ensures { Attempts (option letter) (begun fate (port_of self.old) (spec.opening (file (port_of self.old).disk))) result (port_of self.old) (port_of self.new) }
     {
-        self.berth
-            .begin(fate, |file| Ok((Harbour::open(heap, file)?, <Step>::default())))
+        self.berth.begin(
+            fate,
+            |file| Ok((Harbour::open(heap, file)?, <Step>::default())),
+        )
     }
 }
