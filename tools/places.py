@@ -35,10 +35,10 @@ def functions(lines):
             i += 1
             continue
         indent, start = found.group(1), i
-        while lines[i] != indent + "{" and not (lines[i].endswith(" {") and not re.match(r" +(ensures|requires)", lines[i])) and not lines[i].endswith(";"):
+        while not re.match(indent + r"\{(\})?$", lines[i]) and not (lines[i].endswith(" {") and not re.match(r" +(ensures|requires)", lines[i])) and not lines[i].endswith(";"):
             i += 1
         head, first = lines[start : i + 1], i + 1
-        if not lines[i].endswith(";"):
+        if not lines[i].endswith((";", "{}")):
             while lines[i] != indent + "}":
                 i += 1
         yield start + 1, found.group(4), head, list(enumerate(lines[first : i + 1], first + 1))
