@@ -1,6 +1,6 @@
 -- What was ever sent.
 -- Assumes nothing.
-use Rattle.std.proofs.Common.{◌≡◌, ℕ, zero, suc, ◌<◌, ◌≤◌, ◌⊎◌, List, [], ◌∷◌, ◌++◌, length, get_or, set, refl, ap, inl, inr, le_of_suc-le-suc, not-suc-le-zero}
+use Rattle.std.proofs.Common.{◌≡◌, ℕ, zero, suc, ◌<◌, ◌⊎◌, List, [], ◌∷◌, ◌++◌, length, get_or, refl, ap, inl, inr, le_of_suc-le-suc, not-suc-le-zero}
 use mathlib.Core.List.Memᴰ
 use mathlib.Core.List.{Memᴰ}
 use Rattle.world.specs.Abstract.{back}
@@ -35,9 +35,3 @@ mem_push x y (z ∷ zs) at = go (Memᴰ.cases_cons at) (λ h. mem_push x y zs h)
     go : (y ≡ z) ⊎ Memᴰ y (zs ++ x ∷ []) → (Memᴰ y (zs ++ x ∷ []) → Memᴰ y zs ⊎ (y ≡ x)) → Memᴰ y (z ∷ zs) ⊎ (y ≡ x)
     go (inl e) r = inl (Memᴰ.head e)
     go (inr h) r = elim (r h) [ inl m ↦ inl (Memᴰ.tail m) | inr e ↦ inr e ]
-
--- a place past the end holds nothing
-pub set_past : {A : Type 0} (xs : List A) (i : ℕ) (x : A) → length xs ≤ i → set xs i x ≡ xs
-set_past [] i x l = refl
-set_past (y ∷ ys) zero x l = absurd (not-suc-le-zero l)
-set_past (y ∷ ys) (suc i) x l = ap (λ t. y ∷ t) (set_past ys i x (le_of_suc-le-suc l))

@@ -3,6 +3,7 @@
 use Rattle.std.proofs.Common.{◌≡◌, ℕ, ◌≤◌, Bool, true, false, cond, eqb, ltb, ◌⊎◌, List, [], ◌∷◌, ◌++◌, map, length, get_or, set, Some, None, Option, sym, refl, ap, ◌∙◌, subst, inl, inr, arith, get_or-set_other, get_or-set_same}
 use mathlib.Core.List.Memᴰ
 use mathlib.Core.List.{Memᴰ}
+use Rattle.std.proofs.lemmas.List.{set_past}
 use Rattle.std.proofs.lemmas.Bool.{cases_eq, cases_lt}
 use Rattle.std.proofs.lemmas.Bool.Decides.{nat_tests}
 use Rattle.forms.specs.Meaning.{Meaning, Uttered, first, second, third, form_of, put, get, without}
@@ -14,7 +15,7 @@ use Rattle.world.specs.Worlds.{World, BoatState, Said, place_of, log_at, moored,
 use Rattle.world.specs.Abstract.{boat_of, log_in, log_of}
 use Rattle.world.specs.Promises.{Above, Once, more}
 use Rattle.world.proofs.Abs.{place_of_lem, place_moored, boat_moored}
-use Rattle.world.proofs.Sent.{mem_push, set_past}
+use Rattle.world.proofs.Sent.{mem_push}
 
 -- no word that is kept is above the level k
 abbrev pub Below : ℕ → List Kept → Type 0

@@ -1,6 +1,7 @@
 -- A boat vouches for a level: what it says comes to the harbour, and the answer to it.
 -- Assumes nothing.
 use Rattle.std.proofs.Common.{◌≡◌, ℕ, ◌+◌, ◌<◌, ◌≤◌, max, true, false, cond, ◌&&◌, eqb, ltb, ◌⊎◌, List, [], ◌∷◌, ◌++◌, length, get_or, is_ok, Some, Ok, Err, Result, unwrap_or, sym, refl, ap, ◌∙◌, subst, inl, inr, arith, length-append}
+use Rattle.std.proofs.lemmas.List.{get_or_at}
 use Rattle.std.proofs.lemmas.Bool.{ltb-true, ltb-false, lt-ltb, eq-eqb, ne_eqb, cond-true, cond-false, cond_both}
 use Rattle.levels.specs.declared.numbers.BoatId.{BoatId}
 use Rattle.levels.specs.Verdicts.{Verdict, Bad}
@@ -82,16 +83,12 @@ pub boat_apart : (v : World) (b i : ℕ) (s : BoatState) (j : ℕ) → place_of 
 boat_apart v b i s j e d = boat_moored v b i s e j ∙ cond-false (eqb j b) s (boat_of v j) (ne_eqb j b d)
 
 -- the notice with a number comes
-at_length : {A : Type 0} (xs ys : List A) (x d : A) → get_or (xs ++ x ∷ ys) (length xs) d ≡ x
-at_length [] ys x d = refl
-at_length (z ∷ xs) ys x d = at_length xs ys x d
-
 pub brings : (w : World) (xs ys : List Notice) (x : Notice) (n : ℕ) → w.notices ≡ xs ++ x ∷ ys → length xs ≡ n → play w (BringNotice n) ≡ hearing_notice w x
 brings w xs ys x n e l =
     let m : length w.notices ≡ length xs + length (x ∷ ys) = ap length e ∙ length-append xs (x ∷ ys) in
     let lt : n < length w.notices = omega arith in
     cond-true (ltb n (length w.notices)) (hearing_notice w (get_or w.notices n no_notice)) (Err Bad) (lt-ltb n (length w.notices) lt)
-    ∙ ap (λ i. hearing_notice w (get_or w.notices i no_notice)) (sym l) ∙ ap (λ ns. hearing_notice w (get_or ns (length xs) no_notice)) e ∙ ap (hearing_notice w) (at_length xs ys x no_notice)
+    ∙ ap (λ i. hearing_notice w (get_or w.notices i no_notice)) (sym l) ∙ ap (λ ns. hearing_notice w (get_or ns (length xs) no_notice)) e ∙ ap (hearing_notice w) (get_or_at xs x ys no_notice (length xs) refl)
 
 -- a boat tells a floor of at least k; x is the world but for that notice
 pub record Vow (k : ℕ) (w v x : World) (b : BoatId) (i f : ℕ) (e : Event) : Type 0 where
