@@ -1,8 +1,8 @@
 -- How a boat's program finds what its journal has.
 -- Assumes nothing.
-use Rattle.std.specs.Prelude.{◌≡◌, ℕ, max, true, cond, List, length, Option, Ok, Err, Result, nat_le}
+use Rattle.std.specs.Prelude.{◌≡◌, ℕ, max, true, List, length, Option, Ok, Err, Result, nat_le}
 use Rattle.levels.specs.declared.refusals.Refusal.{Refusal}
-use Rattle.levels.specs.Verdicts.{Verdict, Number, verdict}
+use Rattle.levels.specs.Verdicts.{Verdict, verdict}
 use Rattle.messages.specs.declared.Message.{Message}
 use Rattle.logbooks.specs.declared.log.Logbook.{Logbook}
 use Rattle.logbooks.specs.Logs as logs
@@ -26,12 +26,12 @@ pub record Found : Type 0 where
 abbrev pub found : Survey → Found
 found s = record { floor = s.floor.0; level = s.level.0; used = s.used }
 
--- what a program v finds, and what one record more adds; a record that it doesn't read is 1
-abbrev pub surveyed : ℕ → List Written → Result Found Verdict
-surveyed v rs = cond (journal.every (journal.boat_reads v) rs) (Ok (record { floor = journal.floor rs; level = journal.level rs; used = journal.used rs })) (Err (Number 1))
+abbrev pub surveyed : List Written → Found
+surveyed rs = record { floor = journal.floor rs; level = journal.level rs; used = journal.used rs }
 
-abbrev pub noting : ℕ → Written → Found → Result Found Verdict
-noting v r s = cond (journal.boat_reads v r) (Ok (record { floor = max (journal.floor_in r) s.floor; level = max (journal.level_in r) s.level; used = max (journal.used_in r) s.used })) (Err (Number 1))
+-- what one record more adds
+abbrev pub noting : Written → Found → Found
+noting r s = record { floor = max (journal.floor_in r) s.floor; level = max (journal.level_in r) s.level; used = max (journal.used_in r) s.used }
 
 -- the log takes one record more
 abbrev pub replaying : Log → Written → Result Log Verdict

@@ -2,7 +2,6 @@
 ghost use Rattle.std.specs.Prelude.{◌≤◌};
 
 use levels::numbers::{Level, Program};
-use levels::refusals::Refusal;
 use levels::rules::reads;
 use records::Record;
 
@@ -18,28 +17,46 @@ pub struct Survey {
 
 impl Survey {
     ghost use Rattle.std.specs.Prelude.{◌≡◌};
-    ghost use Rattle.levels.specs.Verdicts.{told, Does};
     ghost use Rattle.records.specs.Records.{written};
     ghost use Rattle.boats.specs.Openings.{found, surveyed, noting};
     ghost use Rattle.stations.specs.Steps.{filed};
+    ghost use Rattle.stations.specs.Journals as journals;
 
-    // One record more; one that the program does not read is refused.
-    fn note(&mut self, program: Program, record: Record) -> Result<(), Refusal>
-        ensures { Does (noting program.0 (written «record») (found self.old)) result (found self.old) (found self.new) }
+    // Does a boat that runs a program read a record?
+    fn is_read(program: Program, record: Record) -> bool
+        ensures { result ≡ journals.boat_reads program.0 (written «record») }
+    {
+        match record {
+            Record::Word { word, .. } => reads(program, word.form()),
+            Record::Listed { .. } => false,
+            Record::Floor(_) | Record::Allowed(_) | Record::Used(_) => true,
+        }
+    }
+
+    // Does it read every record of a journal?
+    pub fn reads_all(program: Program, journal: &[Record]) -> bool
+        ensures { result ≡ journals.every (journals.boat_reads program.0) (filed journal.now) }
+    {
+        journal
+            .iter()
+            .all(|record| Survey::is_read(program, *record))
+    }
+
+    // One record more.
+    fn note(&mut self, record: Record)
+        ensures { found self.new ≡ noting (written «record») (found self.old) }
     {
         match record {
             Record::Floor(floor) => self.floor = self.floor.max(floor),
             Record::Allowed(level) => self.level = self.level.max(level),
             Record::Used(used) => self.used = self.used.max(used),
-            Record::Word { word, .. } if reads(program, word.form()) => {}
-            Record::Word { .. } | Record::Listed { .. } => return Err(Refusal::Malformed),
+            Record::Word { .. } | Record::Listed { .. } => {}
         }
-        Ok(())
     }
 
-    // Looks through a journal. A record that the program does not read is refused.
-    pub fn look_through(program: Program, journal: &[Record]) -> Result<Survey, Refusal>
-        ensures { told found result ≡ surveyed program.0 (filed journal.now) }
+    // Looks through a journal.
+    pub fn look_through(journal: &[Record]) -> Survey
+        ensures { found result ≡ surveyed (filed journal.now) }
     {
         let mut survey = Survey {
             floor: Program(1),
@@ -47,8 +64,8 @@ impl Survey {
             used: 0,
         };
         for record in journal {
-            survey.note(program, *record)?;
+            survey.note(*record);
         }
-        Ok(survey)
+        survey
     }
 }

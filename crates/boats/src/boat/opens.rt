@@ -49,7 +49,10 @@ impl Boat {
         if number == BoatId::HARBOUR {
             return Err(Refusal::Invalid);
         }
-        let found = Survey::look_through(program, journal)?;
+        if !Survey::reads_all(program, journal) {
+            return Err(Refusal::Malformed);
+        }
+        let found = Survey::look_through(journal);
         if program < found.floor {
             return Err(Refusal::BelowFloor);
         }
