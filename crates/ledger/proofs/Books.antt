@@ -1,7 +1,7 @@
 -- What listing and hearing make of what the harbour knows of each boat.
 -- Assumes nothing.
-use Rattle.std.proofs.Common.{◌≡◌, ℕ, ◌<◌, ◌≤◌, max, Bool, true, false, cond, not, ◌&&◌, eqb, ltb, leb, ◌⊎◌, List, [], ◌∷◌, length, is_some, Some, None, Ok, Err, Option, Result, sym, refl, ap, ◌∙◌, inl, inr, arith}
-use Rattle.std.proofs.lemmas.Bool.{cond-true, cond-false, eq-eqb, ne_eqb, lt-ltb, ltb-true, ltb-false, le-ltb, and_from, and_parts}
+use Rattle.std.proofs.Common.{◌≡◌, ℕ, ◌<◌, ◌≤◌, max, Bool, true, false, cond, not, ◌&&◌, eqb, ltb, leb, List, [], ◌∷◌, length, is_some, Some, None, Ok, Err, Option, Result, sym, refl, ap, ◌∙◌, inl, inr, arith}
+use Rattle.std.proofs.lemmas.Bool.{cond-true, cond-false, eq-eqb, ne_eqb, lt-ltb, ltb-true, ltb-false, le-ltb, and_from, and_parts, cases_Bool}
 use Rattle.std.proofs.lemmas.Bool.Decides.{nat_tests}
 use Rattle.levels.specs.declared.numbers.Program.{Program}
 use Rattle.levels.specs.declared.refusals.Refusal.{Refusal}
@@ -9,25 +9,21 @@ use Rattle.levels.specs.Verdicts.{Verdict, Number, Replies}
 use Rattle.ledger.specs.Entries.{Entry, entry, above, ascending, floor_of, entered, admitted, heard, lacking, numbers_of}
 use Rattle.ledger.specs.Ledgers.{Book, floor_number, answering, hearing, admitting, promised, restoring}
 
-pub both : (b : Bool) → (b ≡ true) ⊎ (b ≡ false)
-both true = inl refl
-both false = inr refl
-
 -- a promise that is heard raises that boat's floor, and no other's
 abbrev pub raised_by : ℕ → Option ℕ → Option ℕ
 raised_by f None = None
 raised_by f (Some n) = Some (max n f)
 
 pub floor_heard : (i b f : ℕ) (es : List Entry) → floor_of i (heard b f es) ≡ cond (eqb i b) (raised_by f (floor_of i es)) (floor_of i es)
-floor_heard i b f [] = elim (both (eqb i b)) [ inl t ↦ sym (cond-true _ _ _ t) | inr t ↦ sym (cond-false _ _ _ t) ]
+floor_heard i b f [] = elim (cases_Bool (eqb i b)) [ inl t ↦ sym (cond-true _ _ _ t) | inr t ↦ sym (cond-false _ _ _ t) ]
 floor_heard i b f (x ∷ es) =
     let ih = floor_heard i b f es in
-    elim (both (eqb x.boat.0 b)) [
-      | inl t ↦ elim (both (eqb x.boat.0 i)) [
+    elim (cases_Bool (eqb x.boat.0 b)) [
+      | inl t ↦ elim (cases_Bool (eqb x.boat.0 i)) [
         | inl u ↦ (let e : eqb i b ≡ true = grind (arith, nat_tests) in simp (t, u, e))
         | inr u ↦ (let e : eqb i b ≡ false = grind (arith, nat_tests) in simp (t, u, e))
       ]
-      | inr t ↦ elim (both (eqb x.boat.0 i)) [
+      | inr t ↦ elim (cases_Bool (eqb x.boat.0 i)) [
         | inl u ↦ (let e : eqb i b ≡ false = grind (arith, nat_tests) in simp (t, u, e))
         | inr u ↦ simp (t, u) ih
       ]
@@ -55,8 +51,8 @@ pub floor_entered : (i b : ℕ) (es : List Entry) → floor_of i (entered b es) 
 floor_entered i b [] = refl
 floor_entered i b (x ∷ es) =
     let ih = floor_entered i b es in
-    elim (both (ltb x.boat.0 b)) [
-      | inl t ↦ elim (both (eqb x.boat.0 i)) [
+    elim (cases_Bool (ltb x.boat.0 b)) [
+      | inl t ↦ elim (cases_Bool (eqb x.boat.0 i)) [
         | inl u ↦ (let e : eqb b i ≡ false = grind (arith, nat_tests) in simp (t, u, e))
         | inr u ↦ simp (t, u) ih
       ]
@@ -67,14 +63,14 @@ floor_entered i b (x ∷ es) =
 above_entered : (c b : ℕ) (es : List Entry) → c < b → above c es ≡ true → above c (entered b es) ≡ true
 above_entered c b [] l h = lt-ltb _ _ l
 above_entered c b (e ∷ es) l h =
-    elim (both (ltb e.boat.0 b)) [ inl t ↦ ap (above c) (cond-true _ _ _ t) ∙ h | inr t ↦ ap (above c) (cond-false _ _ _ t) ∙ lt-ltb _ _ l ]
+    elim (cases_Bool (ltb e.boat.0 b)) [ inl t ↦ ap (above c) (cond-true _ _ _ t) ∙ h | inr t ↦ ap (above c) (cond-false _ _ _ t) ∙ lt-ltb _ _ l ]
 
 pub ascending_entered : (b : ℕ) (es : List Entry) → floor_of b es ≡ None → ascending es ≡ true → ascending (entered b es) ≡ true
 ascending_entered b [] n a = refl
 ascending_entered b (e ∷ es) n a =
     let p : (above e.boat.0 es ≡ true) × (ascending es ≡ true) = and_parts (above e.boat.0 es) (ascending es) a in
     let d : eqb e.boat.0 b ≡ false = apart (eqb e.boat.0 b) e.floor.0 (floor_of b es) n in
-    elim (both (ltb e.boat.0 b)) [
+    elim (cases_Bool (ltb e.boat.0 b)) [
       | inl t ↦ ap ascending (cond-true _ _ _ t) ∙ and_from _ _ (above_entered e.boat.0 b es (grind (arith, nat_tests)) p.0) (ascending_entered b es (sym (cond-false _ _ _ d) ∙ n) p.1)
       | inr t ↦ ap ascending (cond-false _ _ _ t) ∙ and_from _ _ (let l : ltb b e.boat.0 ≡ true = grind (arith, nat_tests) in l) a
     ]
@@ -86,7 +82,7 @@ ascending_entered b (e ∷ es) n a =
 -- a boat that came on the list is on it
 pub admitted_there : (b : ℕ) (es : List Entry) → is_some (floor_of b (admitted b es)) ≡ true
 admitted_there b es =
-    elim (both (is_some (floor_of b es))) [
+    elim (cases_Bool (is_some (floor_of b es))) [
       | inl t ↦ ap (λ l. is_some (floor_of b l)) (cond-true _ _ _ t) ∙ t
       | inr t ↦ ap (λ l. is_some (floor_of b l)) (cond-false _ _ _ t) ∙ ap is_some (floor_entered b b es ∙ cond-true _ _ _ (eq-eqb b b refl))
     ]

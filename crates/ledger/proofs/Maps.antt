@@ -6,14 +6,14 @@ use Rattle.std.specs.List.{AllByRecursion}
 use Rattle.std.specs.List.Sorted.{IsStrictlySortedBy}
 use Rattle.std.specs.Map.{keys_of, lookup, set_value}
 use Rattle.std.specs.Ordering.{nat_cmp}
-use Rattle.std.proofs.lemmas.Bool.{cond-true, cond-false, and_from}
+use Rattle.std.proofs.lemmas.Bool.{cond-true, cond-false, and_from, cases_Bool}
 use Rattle.std.proofs.lemmas.Bool.Decides.{nat_tests}
 use Rattle.std.proofs.lemmas.Map.Keys.{sorted_head, sorted_tail}
 use Rattle.levels.specs.declared.numbers.BoatId.{BoatId}
 use Rattle.levels.specs.declared.numbers.Program.{Program}
 use Rattle.ledger.specs.Entries.{entry, above, ascending, floor_of, entered, heard}
 use Rattle.ledger.specs.Ledgers.{entry_of, listed, floor_in}
-use Rattle.ledger.proofs.Books.{both, none_is}
+use Rattle.ledger.proofs.Books.{none_is}
 
 -- the order of the keys
 abbrev pub by_number : BoatId → BoatId → Ordering
@@ -45,10 +45,10 @@ not_there b ps e = none_is (floor_of b.0 (map entry_of ps)) (there b ps ∙ e)
 pub entered_in : (b : BoatId) (ps : List (BoatId × Program)) → floor_of b.0 (map entry_of ps) ≡ None → map entry_of (insert_entry by_number ps b (record { 0 = 1 })) ≡ entered b.0 (map entry_of ps)
 entered_in b [] n = refl
 entered_in b (p ∷ ps) n =
-    elim (both (eqb p.0.0 b.0)) [
+    elim (cases_Bool (eqb p.0.0 b.0)) [
       | inl t ↦ (let z : ◌≡◌ {A = Option ℕ} (Some p.1.0) None = sym (cond-true _ _ _ t) ∙ n in cc)
       | inr t ↦ (let ih = entered_in b ps (sym (cond-false _ _ _ t) ∙ n) in
-          elim (both (ltb p.0.0 b.0)) [
+          elim (cases_Bool (ltb p.0.0 b.0)) [
             | inl u ↦ (let m : nat_cmp b.0 p.0.0 ≡ Greater = grind (arith, nat_tests) in simp (u, m) (ap (λ es. entry_of p ∷ es) ih))
             | inr u ↦ (let m : nat_cmp b.0 p.0.0 ≡ Less = grind (arith, nat_tests) in simp (u, m))
           ])
@@ -59,7 +59,7 @@ pub heard_in : (b : BoatId) (f : ℕ) (g w : Program) (ps : List (BoatId × Prog
 heard_in b f g w [] l m = refl
 heard_in b f g w (p ∷ ps) l m =
     let s : is_at (by_number b) p.0 ≡ eqb p.0.0 b.0 = at_number b p.0 in
-    elim (both (eqb p.0.0 b.0)) [
+    elim (cases_Bool (eqb p.0.0 b.0)) [
       | inl t ↦ (let e : Some p.1 ≡ Some g = sym (cond-true _ _ _ (s ∙ t)) ∙ l in let q : p.1 ≡ g = cc in
           let v : w.0 ≡ max p.1.0 f = m ∙ ap (λ (x : Program). max x.0 f) (sym q) in
           simp (s, t) (ap (λ n. entry p.0.0 n ∷ map entry_of ps) v))

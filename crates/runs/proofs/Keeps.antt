@@ -3,12 +3,11 @@
 use Rattle.std.proofs.Common.{◌≡◌, ℕ, ◌<◌, ◌≤◌, Bool, true, false, cond, not, ◌&&◌, eqb, ltb, leb, ◌⊎◌, List, [], ◌∷◌, length, get_or, drop, is_some, is_ok, Some, None, Ok, Err, Option, Result, sym, refl, ap, ◌∙◌, subst, inl, inr, append_assoc, arith}
 use mathlib.Core.List.Memᴰ
 use mathlib.Core.List.{Memᴰ}
-use Rattle.std.proofs.lemmas.Bool.{cond_both, cond-true, cond-false, eq-eqb, ltb-false, lt-ltb, le-leb, leb-true, and_parts, and_from, true≢false, false≢true}
+use Rattle.std.proofs.lemmas.Bool.{cond_both, cond-true, cond-false, eq-eqb, ltb-false, lt-ltb, le-leb, leb-true, and_parts, and_from, true≢false, false≢true, cases_Bool}
 use Rattle.std.proofs.lemmas.Bool.Decides.{nat_tests}
 use Rattle.levels.specs.Verdicts.{Verdict, Number, Bad}
 use Rattle.levels.specs.Rules.{reads, keep_form}
 use Rattle.ledger.specs.Ledgers.{Book}
-use Rattle.ledger.proofs.Books.{both}
 use Rattle.forms.specs.Meaning.{Uttered, form_of, ship_of}
 use Rattle.logbooks.specs.Logs.{Log, slot_of, older, taking}
 use Rattle.messages.specs.Messages.{Letter}
@@ -43,7 +42,7 @@ lawful_said (level_is k ∷ rs) h j l = said_on (level_is k) rs j (h.0.2 j l) (l
 lawful_said (word_is b n u ∷ rs) h j l = said_on (word_is b n u) rs j (h.0.2 j l) (lawful_said rs h.1 j l)
 lawful_said (used_to n ∷ rs) h j l = said_on (used_to n) rs j (h.0.2 j l) (lawful_said rs h.1 j l)
 lawful_said (boat_is b f ∷ rs) h j l =
-    elim (both (eqb b j)) [
+    elim (cases_Bool (eqb b j)) [
       | inl t ↦ fresh t h.0.3 (lawful_said rs h.1 j)
       | inr t ↦ said_on (boat_is b f) rs j (omega arith) (lawful_said rs h.1 j (listed_apart j b f rs t l))
     ]

@@ -1,10 +1,10 @@
 -- What the harbour's journal has of each boat.
 -- Assumes nothing.
 use Rattle.std.proofs.Common.{◌≡◌, ℕ, ◌≤◌, max, Bool, true, false, cond, eqb, List, [], ◌∷◌, is_some, Some, None, Option, unwrap_or, sym, refl, ap, ◌∙◌, subst, inl, inr, arith}
-use Rattle.std.proofs.lemmas.Bool.{cond-true, cond-false, eq-eqb, eqb-true}
+use Rattle.std.proofs.lemmas.Bool.{cond-true, cond-false, eq-eqb, eqb-true, cases_Bool}
 use Rattle.std.proofs.lemmas.Bool.Decides.{nat_tests}
 use Rattle.ledger.specs.Entries.{Entry, floor_of, entered, admitted}
-use Rattle.ledger.proofs.Books.{both, raised_by, floor_heard, floor_entered}
+use Rattle.ledger.proofs.Books.{raised_by, floor_heard, floor_entered}
 use Rattle.records.specs.Records.{Written, floor_is, level_is, word_is, boat_is, used_to}
 use Rattle.stations.specs.Journals.{boats}
 use Rattle.runs.specs.Promises.{Listed, heard_of}
@@ -53,7 +53,7 @@ heard_apart j b f rs t = let u : eqb j b ≡ false = grind (arith, nat_tests) in
 -- by cases: its boat or another
 pub heard_both : (P : ℕ → Type 0) (j b f : ℕ) (rs : List Written) → (b ≡ j → P (max f (heard_of rs j))) → (eqb b j ≡ false → P (heard_of rs j)) → P (heard_of (boat_is b f ∷ rs) j)
 heard_both P j b f rs here apart =
-    elim (both (eqb b j)) [
+    elim (cases_Bool (eqb b j)) [
       | inl t ↦ (let e : b ≡ j = eqb-true b j t in subst (λ (c : ℕ). P (heard_of (boat_is c f ∷ rs) j)) (sym e) (subst P (sym (heard_here j f rs)) (here e)))
       | inr t ↦ subst P (sym (heard_apart j b f rs t)) (apart t)
     ]
@@ -90,7 +90,7 @@ listed_more j (floor_is f) rs l = l
 listed_more j (level_is k) rs l = l
 listed_more j (word_is b n u) rs l = l
 listed_more j (boat_is b f) rs l =
-    elim (both (eqb b j)) [
+    elim (cases_Bool (eqb b j)) [
       | inl t ↦ (let e : b ≡ j = eqb-true b j t in subst (λ (c : ℕ). Listed (boat_is c f ∷ rs) j) (sym e) (ap is_some (boat_here j f rs) ∙ go (floor_of j (boats rs))))
       | inr t ↦ (let u : eqb j b ≡ false = grind (arith, nat_tests) in ap is_some (boat_apart j b f rs t u) ∙ l)
     ]

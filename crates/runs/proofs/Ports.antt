@@ -1,13 +1,13 @@
 -- Whatever the harbour does keeps the invariant.
 -- Assumes nothing.
 use Rattle.std.proofs.Common.{◌≡◌, ℕ, suc, ◌<◌, ◌≤◌, max, Bool, true, false, cond, ◌&&◌, ◌||◌, eqb, ltb, leb, List, [], ◌∷◌, map, length, is_some, Some, None, Ok, Err, Option, Result, unwrap_or, sym, refl, ap, ◌∙◌, subst, inl, inr, arith}
-use Rattle.std.proofs.lemmas.Bool.{cond_both, cond-true, cond-false, eq-eqb, eqb-true, ltb-false, le-leb, leb-false, true≢false}
+use Rattle.std.proofs.lemmas.Bool.{cond_both, cond-true, cond-false, eq-eqb, eqb-true, ltb-false, le-leb, leb-false, true≢false, cases_Bool}
 use Rattle.std.proofs.lemmas.Bool.Decides.{nat_tests}
 use Rattle.levels.specs.Verdicts.{Verdict, Number, Bad}
 use Rattle.ledger.specs.Entries.{Entry, entry, floor_of, entered, heard, admitted, lacking}
 use Rattle.ledger.specs.Ledgers as ledger
 use Rattle.ledger.specs.Ledgers.{Book, answering, unpromised}
-use Rattle.ledger.proofs.Books.{both, none_is, none_lacks}
+use Rattle.ledger.proofs.Books.{none_is, none_lacks}
 use Rattle.messages.specs.Messages.{Telling, word, promise, heard as heard_is, level, has_it, Letter, notice}
 use Rattle.records.specs.Records.{Written, level_is, boat_is}
 use Rattle.stations.specs.Journals as journal
@@ -95,7 +95,7 @@ module _ (w : World) (sd : Sound w) (x : Book) (up : w.harbour.running ≡ Some 
 
   -- boats of the list are there
   boat_there : (b f : ℕ) → there w b ≡ true → (j : ℕ) → Listed (boat_is b f ∷ whole_port w) j → there w j ≡ true
-  boat_there b f tb j l = elim (both (eqb b j)) [ inl t ↦ subst (λ (i : ℕ). there w i ≡ true) (eqb-true b j t) tb | inr t ↦ sd.ledger.there j (listed_apart j b f (whole_port w) t l) ]
+  boat_there b f tb j l = elim (cases_Bool (eqb b j)) [ inl t ↦ subst (λ (i : ℕ). there w i ≡ true) (eqb-true b j t) tb | inr t ↦ sd.ledger.there j (listed_apart j b f (whole_port w) t l) ]
 
   known_there : (b g : ℕ) → floor_of b x.list ≡ Some g → there w b ≡ true
   known_there b g e = sd.ledger.there b (sym (ap (λ (es : List Entry). is_some (floor_of b es)) list_is) ∙ ap is_some e)

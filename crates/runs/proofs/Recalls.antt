@@ -2,12 +2,11 @@
 -- Assumes nothing.
 use Rattle.std.proofs.Common.{◌≡◌, ℕ, ◌+◌, ◌<◌, ◌≤◌, min, max, Bool, true, false, cond, not, ◌&&◌, eqb, ltb, leb, ◌⊎◌, List, [], ◌∷◌, ◌++◌, map, length, is_some, Some, None, Ok, Err, Option, sym, refl, ap, ◌∙◌, subst, inl, inr, arith}
 use mathlib.Core.Path.{fun_ext}
-use Rattle.std.proofs.lemmas.Bool.{cond_both, cond-true, cond-false, eqb-true, ltb-true, ltb-false, leb-false, and_parts}
+use Rattle.std.proofs.lemmas.Bool.{cond_both, cond-true, cond-false, eqb-true, ltb-true, ltb-false, leb-false, and_parts, cases_Bool}
 use Rattle.std.proofs.lemmas.Bool.Decides.{nat_tests}
 use Rattle.levels.specs.Verdicts.{Number}
 use Rattle.levels.specs.Rules.{Boat, keep_form}
 use Rattle.levels.specs.Standings.{promised, raised}
-use Rattle.ledger.proofs.Books.{both}
 use Rattle.forms.specs.Meaning.{Uttered, first, second, third, form_of, ship_of, put, get}
 use Rattle.logbooks.specs.Slots.{Kept, keeping, forgotten}
 use Rattle.logbooks.specs.Logs.{Log, placed, slot_of, slot, higher, older, noted, entered, taking, fallen}
@@ -103,7 +102,7 @@ noted_last : (b n : ℕ) (w u : Uttered) (rs : List Written) → ship_of w ≡ s
 noted_last b n w u rs s t = fun_ext (λ c. fun_ext (λ d. go c d))
   where
     at : (c d : ℕ) → (eqb c b && eqb d (ship_of u) ≡ true) ⊎ (eqb c b && eqb d (ship_of u) ≡ false)
-    at c d = both (eqb c b && eqb d (ship_of u))
+    at c d = cases_Bool (eqb c b && eqb d (ship_of u))
 
     flip : (c d : ℕ) → eqb b c && eqb (ship_of w) d ≡ eqb c b && eqb d (ship_of u)
     flip c d =

@@ -2,13 +2,13 @@
 -- Assumes nothing.
 use Rattle.std.proofs.Common.{◌≡◌, ℕ, ◌<◌, ◌≤◌, max, Bool, true, false, cond, not, ◌&&◌, ◌||◌, eqb, ltb, leb, ◌⊎◌, List, [], ◌∷◌, ◌++◌, map, length, get_or, is_some, is_ok, Some, None, Ok, Err, Option, Result, unwrap_or, sym, refl, ap, ◌∙◌, subst, inl, inr, append_assoc, append-nil, arith, length-append}
 use mathlib.Core.List.{Memᴰ}
-use Rattle.std.proofs.lemmas.Bool.{cond_both, cond-true, cond-false, eq-eqb, ne_eqb, eqb-true, ltb-true, ltb-false, lt-ltb, leb-true, and_parts, and_from, false≢true}
+use Rattle.std.proofs.lemmas.Bool.{cond_both, cond-true, cond-false, eq-eqb, ne_eqb, eqb-true, ltb-true, ltb-false, lt-ltb, leb-true, and_parts, and_from, false≢true, cases_Bool}
 use Rattle.std.proofs.lemmas.Bool.Decides.{nat_tests}
 use Rattle.levels.specs.Verdicts.{Verdict, Number, Bad}
 use Rattle.ledger.specs.Entries.{Entry, ascending, floor_of, entered, heard, admitted, lacking, numbers_of}
 use Rattle.ledger.specs.Ledgers as ledger
 use Rattle.ledger.specs.Ledgers.{Book, answering, unpromised}
-use Rattle.ledger.proofs.Books.{both, numbers_heard, listed_same, ascending_heard, lacks_none, known_all, ascending_entered}
+use Rattle.ledger.proofs.Books.{numbers_heard, listed_same, ascending_heard, lacks_none, known_all, ascending_entered}
 use Rattle.messages.specs.Messages.{heard as heard_is, has_it, Letter, notice}
 use Rattle.records.specs.Records.{Written, floor_is, level_is, word_is, boat_is, used_to}
 use Rattle.stations.specs.Journals as journal
@@ -131,7 +131,7 @@ no_zero w b t = let o : 1 ≤ b = leb-true 1 b (and_parts (leb 1 b) (leb b w.cou
 -- the harbour is started
 port_up : (k : ℕ) (w : World) → Sound w → Reached k w (λ v. is_some v.harbour.running ≡ true)
 port_up k w sd =
-    elim (both (is_some w.harbour.running)) [
+    elim (cases_Bool (is_some w.harbour.running)) [
       | inl t ↦ record { events = []; world = w; way = stays; keeps = keeps_none k w; sound = sd; so = t }
       | inr t ↦ (let o : (x : Book) × (harbours.opening (whole_port w) ≡ Ok x) = ok_of (harbours.opening (whole_port w)) (promises w sd).reopens in
           let r : Reached k w (λ v. v ≡ w) = record { events = []; world = w; way = stays; keeps = keeps_none k w; sound = sd; so = refl } in
@@ -152,7 +152,7 @@ boat_up k b w r l =
     let v : World = r.world in
     let p : ℕ = (v.boat b).program in
     let t : there v b ≡ true = listed_there v b r.sound l in
-    elim (both (is_some (v.boat b).running)) [
+    elim (cases_Bool (is_some (v.boat b).running)) [
       | inl u ↦ record { events = r.events; world = v; way = r.way; keeps = r.keeps; sound = r.sound; so = (r.so, u) }
       | inr u ↦ (let o : (ls : List Letter) × (boats.opening b p (whole v b) ≡ Ok (deed [] ls, boats.recalled p (whole v b))) = opening_is b p (whole v b) ((promises v r.sound).opens b p l (r.sound.boats b).kept) in
           let d : Deed × Memory = (deed [] o.0, boats.recalled p (whole v b)) in
@@ -205,7 +205,7 @@ vouches k b w r l new low =
     let here : Aboard b (safe_port v) (v.boat b) (Some m) = standing_of v b m r.sound o.1 in
     let fl : m.standing.floor ≡ journal.floor (whole v b) = ap (λ (y : Memory). y.standing.floor) here.0 in
     let pr : m.standing.program ≡ (v.boat b).program = ap (λ (y : Memory). y.standing.program) here.0 in
-    elim (both (ltb (journal.floor (whole v b)) k)) [
+    elim (cases_Bool (ltb (journal.floor (whole v b)) k)) [
       | inl c ↦ (let lt : journal.floor (whole v b) < k = ltb-true (journal.floor (whole v b)) k c in
           let d : Deed × Memory = boats.promising b m in
           let rs : List Written = d.0.records in
@@ -265,7 +265,7 @@ boat_heard k b w r l new =
     let s : Reached k w (Up b) = boat_up k b w r l in
     let on : Listed (whole_port s.world) b = listed_on k w b r.world s.world r.keeps s.keeps l in
     let run : k ≤ (s.world.boat b).program = omega (arith, new, r.keeps.programs b, s.keeps.programs b) in
-    elim (both (ltb (heard_of (whole_port s.world) b) k)) [
+    elim (cases_Bool (ltb (heard_of (whole_port s.world) b) k)) [
       | inl c ↦ (let low : heard_of (whole_port s.world) b < k = ltb-true (heard_of (whole_port s.world) b) k c in
           let t : Reached k w (Tells k b) = vouches k b w s on run low in
           hears k b w t (listed_on k w b s.world t.world s.keeps t.keeps on))
@@ -298,7 +298,7 @@ mem_listed j (e ∷ es) at = go (mathlib.Core.List.Memᴰ.cases_cons at) (mem_li
 pub listed_mem : (j : ℕ) (es : List Entry) → is_some (floor_of j es) ≡ true → Memᴰ j (numbers_of es)
 listed_mem j [] t = absurd (false≢true t)
 listed_mem j (e ∷ es) t =
-    elim (both (eqb e.boat.0 j)) [
+    elim (cases_Bool (eqb e.boat.0 j)) [
       | inl c ↦ mathlib.Core.List.Memᴰ.head (sym (eqb-true e.boat.0 j c))
       | inr c ↦ mathlib.Core.List.Memᴰ.tail (listed_mem j es (sym (ap is_some (cond-false (eqb e.boat.0 j) (Some e.floor.0) (floor_of j es) c)) ∙ t))
     ]

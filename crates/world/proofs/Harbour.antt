@@ -4,7 +4,7 @@ use Rattle.std.proofs.Common.{◌≡◌, ℕ, ◌≤◌, max, Bool, true, false,
 use mathlib.Core.Path.{fun_ext}
 use mathlib.Core.List.Memᴰ
 use mathlib.Core.List.{Memᴰ}
-use Rattle.std.proofs.lemmas.Bool.{leb-true, ltb-false, eqb-true, eq-eqb, cond-true, cond-false, cond_both}
+use Rattle.std.proofs.lemmas.Bool.{leb-true, ltb-false, eqb-true, eq-eqb, cond-true, cond-false, cond_both, cases_Bool}
 use Rattle.levels.specs.Verdicts.{Verdict, Number, Bad}
 use Rattle.levels.specs.Rules.{Boat}
 use Rattle.levels.specs.Standings.{raised}
@@ -21,7 +21,7 @@ use Rattle.world.specs.Worlds.{World, BoatState, place_of, state_at, moored, not
 use Rattle.world.specs.Worlds as spec
 use Rattle.world.specs.Abstract.{boat_of, heard_of, machine_of, notice_of, abs}
 use Rattle.world.proofs.Abs.{higher_max, boat_moored}
-use Rattle.ledger.proofs.Books.{both, raised_by, floor_heard, ascending_heard, floor_entered, none_lacks, none_is, some_is, ascending_entered}
+use Rattle.ledger.proofs.Books.{raised_by, floor_heard, ascending_heard, floor_entered, none_lacks, none_is, some_is, ascending_entered}
 use Rattle.world.proofs.Sent.{mem_back}
 use Rattle.world.proofs.Ruled.{Ruled, promises_of_numbers, Made, made_at, made_if, boat_is_lem, ruled_moored, ruled_noticed, same_machine}
 
@@ -84,7 +84,7 @@ module _ (w : World) (b f : ℕ) where
   heard_put : (g : ℕ) → floor_of b w.harbour.list ≡ Some g → (j : ℕ) → heard_of (booked w noted) j ≡ put b (higher (heard_of w b) f) (heard_of w) j
   heard_put g e j =
       let V : Option ℕ → ℕ = λ o. unwrap_or o 1 in
-      ap V (floor_heard j b f w.harbour.list) ∙ elim (both (eqb j b)) [
+      ap V (floor_heard j b f w.harbour.list) ∙ elim (cases_Bool (eqb j b)) [
         | inl t ↦ ap V (cond-true _ _ _ t) ∙ ap (λ n. V (raised_by f (floor_of n w.harbour.list))) (eqb-true j b t) ∙ ap (λ o. V (raised_by f o)) e ∙ higher_max g f ∙ ap (λ o. higher (V o) f) (sym e) ∙ sym (cond-true _ _ _ t)
         | inr t ↦ ap V (cond-false _ _ _ t) ∙ sym (cond-false _ _ _ t)
       ]
@@ -151,7 +151,7 @@ module _ (w : World) (b : ℕ) (none : floor_of b w.harbour.list ≡ None) where
   heard_same : (j : ℕ) → heard_of (booked w more) j ≡ heard_of w j
   heard_same j =
       let V : Option ℕ → ℕ = λ o. unwrap_or o 1 in
-      ap V (floor_entered j b w.harbour.list) ∙ elim (both (eqb b j)) [
+      ap V (floor_entered j b w.harbour.list) ∙ elim (cases_Bool (eqb b j)) [
         | inl t ↦ ap V (cond-true _ _ _ t) ∙ sym (ap (λ n. V (floor_of n w.harbour.list)) (sym (eqb-true b j t)) ∙ ap V none)
         | inr t ↦ ap V (cond-false _ _ _ t)
       ]
@@ -173,7 +173,7 @@ module _ (w : World) (b : ℕ) (none : floor_of b w.harbour.list ≡ None) where
       }
     where
       somewhere : (j : ℕ) → is_some (cond (eqb b j) (Some 1) (floor_of j w.harbour.list)) ≡ true → (is_some (floor_of j w.harbour.list) ≡ true → is_some (place_of w j) ≡ true) → is_some (place_of w j) ≡ true
-      somewhere j h f = elim (both (eqb b j)) [
+      somewhere j h f = elim (cases_Bool (eqb b j)) [
         | inl t ↦ ap (λ n. is_some (place_of w n)) (sym (eqb-true b j t)) ∙ ap is_some here
         | inr t ↦ f (sym (ap is_some (cond-false (eqb b j) (Some 1) (floor_of j w.harbour.list) t)) ∙ h)
       ]
@@ -183,7 +183,7 @@ module _ (w : World) (b : ℕ) (none : floor_of b w.harbour.list ≡ None) where
       onto j (inr m) f = cond_both (eqb b j) (Some 1) (floor_of j w.harbour.list) (λ o. is_some o ≡ true) (λ _. refl) (λ _. f m)
 
       off : (j : ℕ) {crew : List ℕ} → is_some (cond (eqb b j) (Some 1) (floor_of j w.harbour.list)) ≡ true → (is_some (floor_of j w.harbour.list) ≡ true → Memᴰ j crew) → Memᴰ j (b ∷ crew)
-      off j h f = elim (both (eqb b j)) [
+      off j h f = elim (cases_Bool (eqb b j)) [
         | inl t ↦ Memᴰ.head (sym (eqb-true b j t))
         | inr t ↦ Memᴰ.tail (f (sym (ap is_some (cond-false (eqb b j) (Some 1) (floor_of j w.harbour.list) t)) ∙ h))
       ]

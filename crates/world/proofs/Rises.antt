@@ -6,7 +6,7 @@ use mathlib.Core.List.{is_set}
 use mathlib.Core.Logic.{∥∥₁_elim}
 use native.Mathlib.Nat.{ℕ_set}
 use Rattle.std.proofs.lemmas.List.{length-map}
-use Rattle.std.proofs.lemmas.Bool.{ltb-true, ltb-false, leb-true, le-leb, or_parts, or_from, and_parts, cond-true, cond-false, cases_eq}
+use Rattle.std.proofs.lemmas.Bool.{ltb-true, ltb-false, leb-true, le-leb, or_parts, or_from, and_parts, cond-true, cond-false, cases_eq, cases_Bool}
 use Rattle.levels.specs.Verdicts.{Number, Bad}
 use Rattle.levels.specs.Standings.{raised}
 use Rattle.ledger.specs.Entries.{Entry, floor_of, lacking, above, ascending}
@@ -20,7 +20,7 @@ use Rattle.world.specs.Abstract.{boat_of, heard_of}
 use Rattle.world.specs.Promises.{after, plays, run, Listed, Reached}
 use Rattle.world.specs.Rising.{vouch, vouching, behind, bringing, levels_notice, raising, outdated, can_raise, taken, Risen, RunRises}
 use Rattle.world.specs.Calls.{Raised}
-use Rattle.ledger.proofs.Books.{both, some_is, Known, known_past, known_all, floor_tail, lacks_none, listed_same}
+use Rattle.ledger.proofs.Books.{some_is, Known, known_past, known_all, floor_tail, lacks_none, listed_same}
 use Rattle.world.proofs.Ruled.{Ruled}
 use Rattle.world.proofs.Kept.{ruled_start, ruled_plays}
 use Rattle.world.proofs.Vouches.{Did, did_none, did_next, did_then, ruled_ok, Keeps, keeps_same, keeps_moored, like_at, boat_here, boat_apart, brings, Vouched, vouches}
@@ -57,7 +57,7 @@ heeded k w v (e ∷ es) n r p new known a l past =
     let b : ℕ = e.boat.0 in
     let old : (ltb (boat_of w b).standing.program k ≡ false) × (outdated w k es ≡ false) = or_parts (ltb (boat_of w b).standing.program k) (outdated w k es) new in
     let asc : (above b es ≡ true) × (ascending es ≡ true) = and_parts (above b es) (ascending es) a in
-    elim (both (ltb e.floor.0 k)) [
+    elim (cases_Bool (ltb e.floor.0 k)) [
       | inl t ↦
           (let i : (i : ℕ) × (place_of v b ≡ Some i) = place_on v r b e.floor.0 known.0 in
           let x : (u : World) × Vouched k w v e.boat n u = vouches k w v e.boat i.0 e.floor.0 n r p i.1 (ltb-false (boat_of w b).standing.program k old.0) known.0 (ltb-true e.floor.0 k t) l in

@@ -2,7 +2,7 @@
 -- Assumes nothing.
 use Rattle.std.proofs.Common.{◌≡◌, ℕ, ◌+◌, ◌<◌, ◌≤◌, max, true, false, cond, ◌&&◌, eqb, ltb, ◌⊎◌, List, [], ◌∷◌, ◌++◌, length, get_or, is_ok, Some, Ok, Err, Result, unwrap_or, sym, refl, ap, ◌∙◌, subst, inl, inr, arith, length-append}
 use Rattle.std.proofs.lemmas.List.{get_or_at}
-use Rattle.std.proofs.lemmas.Bool.{ltb-true, ltb-false, lt-ltb, eq-eqb, ne_eqb, cond-true, cond-false, cond_both}
+use Rattle.std.proofs.lemmas.Bool.{ltb-true, ltb-false, lt-ltb, eq-eqb, ne_eqb, cond-true, cond-false, cond_both, cases_Bool}
 use Rattle.levels.specs.declared.numbers.BoatId.{BoatId}
 use Rattle.levels.specs.Verdicts.{Verdict, Bad}
 use Rattle.ledger.specs.Entries.{floor_of, heard}
@@ -18,7 +18,7 @@ use Rattle.world.specs.Promises.{after, plays}
 use Rattle.ledger.specs.Entries.{numbers_of}
 use Rattle.world.specs.Rising.{vouch, taken}
 use Rattle.world.proofs.Abs.{place_moored, boat_moored}
-use Rattle.ledger.proofs.Books.{both, raised_by, floor_heard, numbers_heard}
+use Rattle.ledger.proofs.Books.{raised_by, floor_heard, numbers_heard}
 use Rattle.world.proofs.Ruled.{Ruled, Made, boat_is_lem}
 use Rattle.world.proofs.Kept.{made_play, promises}
 
@@ -116,7 +116,7 @@ vow_tick k w v b i r p e low high =
     let l : Like k (boat_of w b.0) (state_at v i) = like_at k w v b.0 i p e in
     let f : (state_at v i).standing.floor ≡ (boat_of w b.0).standing.floor = l.1 high in
     record {
-      does = ap (λ o. at o (λ n. Ok (cond (tells (state_at v n)) (noticed v (telling b.0 (state_at v n).standing.floor)) v))) e ∙ ap Ok (cond-true (tells (state_at v i)) _ v (loud f (both (tells (state_at v i)))));
+      does = ap (λ o. at o (λ n. Ok (cond (tells (state_at v n)) (noticed v (telling b.0 (state_at v n).standing.floor)) v))) e ∙ ap Ok (cond-true (tells (state_at v i)) _ v (loud f (cases_Bool (tells (state_at v i)))));
       keeps = p;
       place = e;
       book = refl;

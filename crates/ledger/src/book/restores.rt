@@ -16,6 +16,7 @@ impl Ledger {
             return Err(Refusal::Invalid);
         }
         self.admit(boat)?;
+        // it is on the list now, so its promise is heard
         let _ = self.hear(boat, floor);
         Ok(())
     }

@@ -97,7 +97,7 @@ impl Rehearsal {
         ensures { OrMemory result (events.new.items ≡ events.old.items ++ spec.vouching (world self.now.fleet) level.0 (world self.now.fleet).harbour.list (length (world self.now.fleet).notices)) }
     {
         let boats = self.fleet.harbour().boats();
-        // the next notice's number, two more with each boat that vouches: it follows the notices and not the turns, so nothing counts it more plainly
+        // counted here, since it goes up by two, and only where a boat vouches
         let mut next = self.fleet.notices().len();
         for (boat, floor) in boats {
             if floor.0 < level.0 {

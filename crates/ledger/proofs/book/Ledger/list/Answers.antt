@@ -1,9 +1,8 @@
 use Rattle.std.proofs.Common.{◌≡◌, ℕ, eqb, ltb, true, false, ◌⊎◌, is_some, Result, sym, refl, ◌∙◌, subst, inl, inr, rules}
-use Rattle.std.proofs.lemmas.Bool.{ne_eqb, lt-ltb, le-ltb}
+use Rattle.std.proofs.lemmas.Bool.{ne_eqb, lt-ltb, le-ltb, cases_Bool}
 use Rattle.levels.specs.Verdicts.{Verdict, Tries}
 use Rattle.ledger.specs.Entries.{floor_of}
 use Rattle.ledger.specs.Ledgers.{Book, book, listing, admitting}
-use Rattle.ledger.proofs.Books.{both}
 use Rattle.ledger.proofs.Maps.{there, not_there}
 use Rattle.ledger.proofs.book.Ledger.list.Goals as goal
 use Rattle.ledger.proofs.book.Ledger.list.Goals.{else-self-gt1-via-then-self-gt1+else-not-contains_key, else-self-gt1-via-else-self-gt1}
@@ -18,7 +17,7 @@ returns-then-not-contains_key c =
 -- a boat that is on the list, or one that comes before a level above 1 was said
 admits : (x : Book) (b : ℕ) → eqb b 0 ≡ false → (is_some (floor_of b x.list) ≡ true) ⊎ (ltb 1 x.said ≡ false) → listing x b ≡ admitting x b
 admits x b z (inl t) = simp (z, t)
-admits x b z (inr s) = elim (both (is_some (floor_of b x.list))) [ inl t ↦ simp (z, t) | inr t ↦ simp (z, t, s) ]
+admits x b z (inr s) = elim (cases_Bool (is_some (floor_of b x.list))) [ inl t ↦ simp (z, t) | inr t ↦ simp (z, t, s) ]
 
 pub returns : goal.returns
 returns c =
