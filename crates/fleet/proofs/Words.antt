@@ -1,8 +1,8 @@
 -- What saying and hearing a word come to in the world.
 -- Assumes nothing.
-use Rattle.std.proofs.Common.{◌≡◌, ℕ, ◌+◌, ◌-◌, ◌<◌, Bool, true, false, cond, not, ◌&&◌, eqb, leb, [], ◌∷◌, ◌++◌, length, get_or, is_some, Some, Ok, Err, vec_items, Result, sym, refl, ap, ◌∙◌, arith}
+use Rattle.std.proofs.Common.{◌≡◌, ℕ, ◌+◌, ◌-◌, ◌<◌, Bool, true, false, cond, not, ◌&&◌, eqb, leb, [], ◌∷◌, ◌++◌, length, get_or, is_some, Ok, Err, vec_items, Result, sym, refl, ap, ◌∙◌, arith}
 use Rattle.std.proofs.lemmas.List.{length-map, get_or-map, map_push, set-get_or}
-use Rattle.std.proofs.lemmas.Bool.{lt-ltb, cond-true, cond-false}
+use Rattle.std.proofs.lemmas.Bool.{and_from, lt-ltb, cond-true, cond-false}
 use Rattle.std.specs.Prelude.{Vec}
 use Rattle.std.specs.declared.alloc.Global.{Global}
 use Rattle.std.specs.Borrow.{MutBor}
@@ -35,13 +35,13 @@ due_kept w i (Ok l) Memory d = refl
 due_kept w i (Err e) Memory d = d
 
 module _ (f : Fleet) (b : ℕ) (v : MutBor Vessel) (found : Lookup (vec_items f.boats) b (Ok v)) where
-  pub hear_at : (x : Said) → x.to ≡ b → reads v.now.standing.program.0 (form_of x.spoken) ≡ true → hearing_word (world f) x ≡ kept_by (world f) (b - 1) (taking (log v.now.log) x.from x.number x.spoken (keep_form (view v.now.standing) (form_of x.spoken)))
-  hear_at x e r =
+  pub hear_at : (x : Said) → x.to ≡ b → hearing_word (world f) x ≡ cond (reads v.now.standing.program.0 (form_of x.spoken)) (kept_by (world f) (b - 1) (taking (log v.now.log) x.from x.number x.spoken (keep_form (view v.now.standing) (form_of x.spoken)))) (Err (Number 1))
+  hear_at x e =
       let w : World = world f in
       let n = length-map (vec_items f.boats) (λ (y : Vessel). log y.log) in
       let G : ℕ → BoatState → Result World Verdict = λ i s. cond (reads s.standing.program (form_of x.spoken)) (kept_by w i (taken w i s.standing x)) (Err (Number 1)) in
-      let T : Log → Result World Verdict = λ l. kept_by w (b - 1) (taking l x.from x.number x.spoken (keep_form (view v.now.standing) (form_of x.spoken))) in
-      ap (λ o. at o (λ i. G i (state_at w i))) (ap (place_of w) e ∙ there f b v found) ∙ ap (G (b - 1)) (state_is f b v found) ∙ cond-true _ _ _ r ∙ ap (kept_by w (b - 1)) (cond-true _ _ _ (lt-ltb (b - 1) (length w.logs) (omega (arith, n, within f b v found)))) ∙ ap T (log_is f b v found)
+      let T : Result Log Verdict → Result World Verdict = λ t. cond (reads v.now.standing.program.0 (form_of x.spoken)) (kept_by w (b - 1) t) (Err (Number 1)) in
+      ap (λ o. at o (λ i. G i (state_at w i))) (ap (place_of w) e ∙ there f b v found) ∙ ap (G (b - 1)) (state_is f b v found) ∙ ap T (cond-true _ _ _ (lt-ltb (b - 1) (length w.logs) (omega (arith, n, within f b v found))) ∙ ap (λ l. taking l x.from x.number x.spoken (keep_form (view v.now.standing) (form_of x.spoken))) (log_is f b v found))
 
   pub take_tries : (x : Vessel) (want : Result Log Verdict) (r : Result (Unit {0}) Refusal) → state x ≡ state v.now → Tries want r (log v.now.log) (log x.log) → Tries (kept_by (world f) (b - 1) want) r (world f) (world (record f { boats = with_item f.boats (b - 1) x }))
   take_tries x want (Ok u) s t =
@@ -50,12 +50,14 @@ module _ (f : Fleet) (b : ℕ) (v : MutBor Vessel) (found : Lookup (vec_items f.
   take_tries x want (Err n) s t =
       (due_kept (world f) (b - 1) want (verdict n) t.0, sym (logged_is f b v found x (log x.log) s refl) ∙ ap (logged (world f) (b - 1)) (t.1 ∙ sym (log_is f b v found)) ∙ ap (λ l. record (world f) { logs = l }) (set-get_or (world f).logs (b - 1) empty))
 
--- a boat that says a word
-pub say_is : (w : World) (p i j : ℕ) (s : BoatState) (u : Uttered) → place_of w i ≡ Some p → state_at w p ≡ s → is_some (place_of w j) && not (eqb j i) ≡ true → reads s.standing.program (form_of u) ≡ true → leb 4294967296 (s.used + 1) ≡ false → talking w i j u ≡ Ok (talked w p i j s u)
-say_is w p i j s u e q t a b =
-    let G : ℕ → BoatState → Result World Verdict = λ k y. cond (is_some (place_of w j) && not (eqb j i)) (cond (reads y.standing.program (form_of u)) (cond (leb 4294967296 (y.used + 1)) (Err (Number 6)) (Ok (talked w k i j y u))) (Err (Number 1))) (Err Bad) in
-    ap (λ o. at o (λ k. G k (state_at w k))) e ∙ ap (G p) q ∙ cond-true _ _ _ t ∙ cond-true _ _ _ a ∙ cond-false _ _ _ b
+  -- it says a word
+  pub say_at : (j : ℕ) (u : Uttered) → is_some (place_of (world f) j) ≡ true → eqb j b ≡ false → reads v.now.standing.program.0 (form_of u) ≡ true → leb 4294967296 (v.now.used + 1) ≡ false → talking (world f) b j u ≡ Ok (talked (world f) (b - 1) b j (state v.now) u)
+  say_at j u t d a k =
+      let w : World = world f in
+      let G : ℕ → BoatState → Result World Verdict = λ p y. cond (is_some (place_of w j) && not (eqb j b)) (cond (reads y.standing.program (form_of u)) (cond (leb 4294967296 (y.used + 1)) (Err (Number 6)) (Ok (talked w p b j y u))) (Err (Number 1))) (Err Bad) in
+      ap (λ o. at o (λ p. G p (state_at w p))) (there f b v found) ∙ ap (G (b - 1)) (state_is f b v found) ∙ cond-true _ _ _ (and_from _ _ t (ap not d)) ∙ cond-true _ _ _ a ∙ cond-false _ _ _ k
 
+-- the number and the word that are said
 pub counts : (n m : ℕ) → ◌≡◌ {A = Result ℕ Verdict} (Ok m) (counting n) → (m ≡ n + 1) × (leb 4294967296 (n + 1) ≡ false)
 counts n m = go (leb 4294967296 (n + 1)) refl
   where
