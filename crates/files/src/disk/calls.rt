@@ -6,6 +6,7 @@ ghost use Rattle.files.specs.Disks.{held, DiskDid};
 use super::Disk;
 use crate::outside::{Lost, Outside};
 use std::alloc::Global;
+use synced::Synced;
 
 impl Disk {
     // An empty file, nothing sent, and no limit.
@@ -14,8 +15,7 @@ impl Disk {
     {
         Disk {
             heap,
-            bytes: Vec::new(heap),
-            synced: 0,
+            bytes: Synced::new(heap),
             sent: Vec::new(heap),
             budget: None,
         }
@@ -25,14 +25,14 @@ impl Disk {
     pub fn file(&self) -> &[u8]
         ensures { result.now ≡ file (held self.now) }
     {
-        self.bytes.as_slice()
+        self.bytes.items()
     }
 
     // What is safe of it.
     pub fn synced(&self) -> &[u8]
         ensures { result.now ≡ (held self.now).synced }
     {
-        &self.bytes.as_slice()[..self.synced]
+        self.bytes.safe()
     }
 
     // Every message ever sent, in order.
@@ -49,21 +49,19 @@ impl Disk {
         self.budget = Some(effects);
     }
 
-    // The program ends: the file stays, synced or not as it is. It is a cut that takes nothing.
+    // The program ends: the file stays, synced or not as it is.
     pub fn end(&mut self)
         ensures { held self.new ≡ ended (held self.old) }
     {
-        self.cut(usize::MAX);
+        self.budget = None;
     }
 
     // The power is cut: all that was synced stays, and the first `left` bytes of the rest, which are still not synced.
     pub fn cut(&mut self, left: usize)
         ensures { held self.new ≡ cut_to left (held self.old) }
     {
-        self.budget = None;
-        if left < self.bytes.len() - self.synced {
-            self.bytes.truncate(self.synced + left);
-        }
+        self.end();
+        self.bytes.cut(left);
     }
 
     // The budget after one more effect, where one can still be done.
@@ -88,7 +86,7 @@ impl Outside for Disk {
 
     fn sync(&mut self) -> Result<(), Lost> {
         self.budget = self.spent()?;
-        self.synced = self.bytes.len();
+        self.bytes.sync();
         Ok(())
     }
 
@@ -102,11 +100,9 @@ impl Outside for Disk {
     }
 
     fn cut_back(&mut self, len: usize) -> Result<(), Lost> {
-        if len < self.synced {
-            return Err(Lost);
-        }
+        let kept = len.checked_sub(self.synced().len()).ok_or(Lost)?;
         self.budget = self.spent()?;
-        self.bytes.truncate(len);
+        self.bytes.cut(kept);
         Ok(())
     }
 }
