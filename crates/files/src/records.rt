@@ -7,6 +7,7 @@ ghost use Rattle.files.specs.Shapes.{boat_within, boat_more, boat_cut, harbour_w
 use crate::format::Format;
 use crate::front::Wrong;
 use crate::kind::Kind;
+use forms::name::LONGEST;
 use levels::numbers::{FormNumber, Program};
 use levels::rules::reads;
 
@@ -15,8 +16,6 @@ const FORM_AT: usize = 7;
 
 // Where the record of a word in form 3 has the length of its name; the name stands behind it, at its end.
 const NAME_LENGTH_AT: usize = 18;
-
-const LONGEST_NAME: u8 = 40;
 
 // A boat's file, as a program reads it.
 #[derive(Clone, Copy, PartialEq, Eq, Debug)]
@@ -42,13 +41,14 @@ fn named(bytes: &[u8]) -> Result<Option<usize>, Wrong>
     let Some(&length) = bytes.get(NAME_LENGTH_AT) else {
         return Ok(None);
     };
-    if length > LONGEST_NAME {
+    let length = usize::from(length);
+    if length > LONGEST {
         return Err(Wrong);
     }
-    Ok(sized(NAME_LENGTH_AT + 1 + usize::from(length), bytes))
+    Ok(sized(NAME_LENGTH_AT + 1 + length, bytes))
 }
 
-// The record of a word: kind, from, number, and then the word, whose form is its first byte. A match over the form's number, as the project's rules want it.
+// The record of a word: kind, from, number, and then the word, whose form is its first byte. The form is a number, since any may stand there.
 fn word(program: Program, bytes: &[u8]) -> Result<Option<usize>, Wrong>
     ensures { result ≡ word_front program.0 bytes.now }
 {

@@ -8,7 +8,7 @@ use crate::faults::Fault;
 use crate::numbers::number;
 use crate::steps::Step;
 use arrayvec::ArrayVec;
-use forms::name::Name;
+use forms::name::{LONGEST, Name};
 use forms::word::Spoken;
 use levels::numbers::{BoatId, Level, Program};
 use std::num::ParseIntError;
@@ -54,7 +54,7 @@ fn first_byte(text: &[u8]) -> Option<(u8, &[u8])>
 
 // A second name: at most 40 bytes.
 fn name_of(text: &[u8]) -> Result<Name, Fault> {
-    let mut name = ArrayVec::<u8, 40>::new();
+    let mut name = ArrayVec::<u8, LONGEST>::new();
     let mut rest = text;
     while !rest.is_empty() {
         let (byte, others) = first_byte(rest).ok_or(Fault::NotName)?;

@@ -3,7 +3,7 @@ ghost use Rattle.std.specs.Prelude.{◌≡◌, []};
 ghost use Rattle.levels.specs.Verdicts.{told};
 ghost use Rattle.forms.specs.Names.{name_of, naming};
 
-use super::{MOST, Name};
+use super::{LONGEST, Name};
 use levels::refusals::Refusal;
 
 impl Name {
@@ -12,7 +12,7 @@ impl Name {
         ensures { name_of result ≡ [] }
     {
         Name {
-            bytes: [0; MOST],
+            bytes: [0; LONGEST],
             len: 0,
         }
     }
@@ -22,10 +22,10 @@ impl Name {
         ensures { told name_of result ≡ naming name.now }
     {
         let len = name.len();
-        if len > MOST {
+        if len > LONGEST {
             return Err(Refusal::Malformed);
         }
-        let mut bytes = [0; MOST];
+        let mut bytes = [0; LONGEST];
         bytes[..len].copy_from_slice(name);
         Ok(Name { bytes, len })
     }

@@ -46,12 +46,10 @@ impl Rehearsal {
     fn standing_of(&self, boat: BoatId) -> Standing
         ensures { view result ≡ (boat_of (world self.now.fleet) boat.0).standing }
     {
-        let boats = self.fleet.boats();
-        let number = boat.0 as usize;
-        if number < 1 || number > boats.len() {
-            return Standing::first();
+        match self.fleet.boat(boat) {
+            Some(vessel) => vessel.standing,
+            None => Standing::first(),
         }
-        boats[number - 1].standing
     }
 
     // Does a boat of the list run a program below a level?
