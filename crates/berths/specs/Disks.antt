@@ -1,20 +1,15 @@
 -- The code's file as a disk of records.
 -- Assumes nothing.
-use Rattle.std.specs.Prelude.{ℕ, ◌<◌, min, Bool, true, false, take, drop, Ok, Err, vec_items, vec_len, vec_capacity, Result}
-use Rattle.levels.specs.declared.refusals.Refusal.{Refusal}
+use Rattle.std.specs.Prelude.{ℕ, min, Bool, true, false}
 use Rattle.stations.specs.Steps.{filed}
 use Rattle.runs.specs.declared.events.Fate.{Fate}
 use Rattle.runs.specs.declared.events.Fate.TheVariants.{Whole, Killed, Cut}
 use Rattle.runs.specs.Disks.{Disk, spoken}
+use Rattle.synced.specs.Parts.{safe, pending}
 use Rattle.berths.specs.declared.journal.Journal.{Journal}
 
 abbrev pub disk : Journal → Disk
-disk j = record { synced = filed (take j.synced (vec_items j.records)); pending = filed (drop j.synced (vec_items j.records)) }
-
--- there is room for one more, where that was asked for and found
-abbrev pub Room : Result (Unit {0}) Refusal → Journal → Type 0
-Room (Ok u) j = vec_len j.records < vec_capacity j.records
-Room (Err e) j = Unit {0}
+disk j = record { synced = filed (safe j.records); pending = filed (pending j.records) }
 
 -- how many of the append and the sync of a step are reached
 abbrev pub wrote : Fate → Bool → ℕ

@@ -22,6 +22,10 @@ vessel_of v = record { disk = disk v.berth.journal; program = v.program.0; runni
 abbrev pub call_sign : Vessel → ℕ
 call_sign v = v.number.0
 
+-- a boat does what is done to its vessel, and keeps its number
+abbrev pub Sails : (worlds.Vessel → worlds.Vessel → Type 0) → Vessel → Vessel → Type 0
+Sails done v u = done (vessel_of v) (vessel_of u) × (call_sign u ≡ call_sign v)
+
 -- what is asked of a program that does not run makes no sense
 abbrev pub afloat : {A B : Type 0} → Option A → (A → Result B Verdict) → Result B Verdict
 afloat None k = Err Bad

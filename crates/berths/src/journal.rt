@@ -1,14 +1,11 @@
 // A file that is played.
-ghost use Rattle.std.specs.Prelude.{◌≤◌, vec_len};
-
 use records::Record;
+use synced::Synced;
 
 pub(crate) mod effects;
 
-// The records of a file, the oldest first, of which so many are synced.
+// The records of a file, the oldest first, of which some are synced.
 #[derive(Drop)]
 pub struct Journal {
-    records: Vec<Record>,
-    synced: usize,
-    ghost within: { synced ≤ vec_len records },
+    records: Synced<Record>,
 }
