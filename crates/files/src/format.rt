@@ -7,7 +7,7 @@ ghost use Rattle.files.specs.Recovery.{whole_part, CutsBack};
 use crate::front::Wrong;
 use levels::refusals::Refusal;
 
-// A reader of one kind of file. `begins` says how bytes begin, `known` which bytes are a record that it knows. They stay two members: some promises need only one.
+// A reader of one kind of file. `begins` says how bytes begin, `known` which bytes are a record that it knows. Two members, since some promises need only one.
 pub trait Format {
     ghost begins: { Self → List ℕ → Front };
 

@@ -3,14 +3,14 @@ ghost use Rattle.files.specs.Kinds.{Decodes};
 
 use crate::front::Wrong;
 
-// A record's kind, which is its first byte.
+// A record's kind, which its first byte tells.
 #[derive(Clone, Copy, PartialEq, Eq, Debug)]
 pub enum Kind {
-    Floor = 6,
-    Level = 7,
-    Word = 8,
-    Boat = 9,
-    Used = 10,
+    Floor,
+    Level,
+    Word,
+    Boat,
+    Used,
 }
 
 impl TryFrom<u8> for Kind {

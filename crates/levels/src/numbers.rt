@@ -1,5 +1,6 @@
 // Numbers that a type keeps apart.
-ghost use Rattle.std.specs.Prelude.{◌≡◌};
+ghost use Rattle.std.specs.Prelude.{◌≡◌, Some};
+ghost use Rattle.std.specs.Fmt.{decimal};
 ghost use Rattle.levels.specs.Verdicts.{told};
 ghost use Rattle.levels.specs.Standings.{counting};
 
@@ -28,26 +29,38 @@ pub struct Level(pub u32);
 pub struct FormNumber(pub u8);
 
 impl fmt::Display for BoatId {
+    ghost output = { λ boat. Some (decimal boat.0) };
+
     fn fmt<W: fmt::Write>(&self, f: &mut fmt::Formatter<W>) -> fmt::Result {
-        self.0.fmt(f)
+        let BoatId(boat) = *self;
+        boat.fmt(f)
     }
 }
 
 impl fmt::Display for Program {
+    ghost output = { λ program. Some (decimal program.0) };
+
     fn fmt<W: fmt::Write>(&self, f: &mut fmt::Formatter<W>) -> fmt::Result {
-        self.0.fmt(f)
+        let Program(program) = *self;
+        program.fmt(f)
     }
 }
 
 impl fmt::Display for Level {
+    ghost output = { λ level. Some (decimal level.0) };
+
     fn fmt<W: fmt::Write>(&self, f: &mut fmt::Formatter<W>) -> fmt::Result {
-        self.0.fmt(f)
+        let Level(level) = *self;
+        level.fmt(f)
     }
 }
 
 impl fmt::Display for FormNumber {
+    ghost output = { λ form. Some (decimal form.0) };
+
     fn fmt<W: fmt::Write>(&self, f: &mut fmt::Formatter<W>) -> fmt::Result {
-        self.0.fmt(f)
+        let FormNumber(form) = *self;
+        form.fmt(f)
     }
 }
 

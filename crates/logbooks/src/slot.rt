@@ -35,7 +35,7 @@ impl Slot {
     pub fn shown(&self) -> Spoken
         ensures { said result ≡ shown_of (kept self.now) }
     {
-        // A match that returns one of two words: a rule of the project.
+        // One of two words, each a plain value (docs/DECISIONS.md, "Forms of code").
         match self.newer {
             Some(newer) => newer,
             None => self.word,

@@ -44,7 +44,7 @@ pub struct Refused {
     pub reason: Reason,
 }
 
-// Of what makes no sense.
+// A reason that stands alone is that something makes no sense; the others come with their refusal.
 impl From<Reason> for Refused {
     fn from(reason: Reason) -> Refused {
         Refused {

@@ -1,5 +1,5 @@
 // What is done to a list, and what a power cut leaves of it.
-ghost use Rattle.std.specs.Prelude.{◌≡◌, ◌<◌, ◌≤◌, [], ◌∷◌, ◌++◌, cond, is_ok, length, take, OnOk, OnErr};
+ghost use Rattle.std.specs.Prelude.{◌≡◌, ◌+◌, ◌<◌, ◌≤◌, [], ◌∷◌, ◌++◌, cond, is_ok, length, take, OnOk, OnErr};
 ghost use Rattle.synced.specs.Parts.{safe, pending, Holds, room};
 
 use crate::Synced;
@@ -42,14 +42,16 @@ impl<T> Synced<T> {
     // One item more, for which there is room.
     pub fn push_reserved(&mut self, item: T)
         requires { 1 ≤ room self.old }
-        ensures { Holds self.new (safe self.old) (pending self.old ++ item ∷ []) }
+        ensures parts { Holds self.new (safe self.old) (pending self.old ++ item ∷ []) }
+        ensures room { room self.old ≡ 1 + room self.new }
     {
         self.items.push_reserved(item);
     }
 
     // All is synced.
     pub fn sync(&mut self)
-        ensures { Holds self.new (safe self.old ++ pending self.old) [] }
+        ensures parts { Holds self.new (safe self.old ++ pending self.old) [] }
+        ensures room { room self.new ≡ room self.old }
     {
         self.synced = self.items.len();
     }

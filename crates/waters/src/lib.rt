@@ -1,4 +1,4 @@
-// A harbour and its boats with their files, and all that was ever sent. So far a boat does what it is told.
+// A harbour and its boats with their files, and all that was ever sent. A boat does what it is told.
 #![tactic(auto)]
 
 pub mod waters;

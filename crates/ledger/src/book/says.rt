@@ -14,7 +14,7 @@ impl Ledger {
         ensures { boat_in result ≡ lacking level.0 (book self.now).list }
     {
         let mut found = None;
-        // a loop with a label: a rule of the project asks for it
+        // a loop with a label, left at the first boat that has not promised (docs/DECISIONS.md, "Forms of code")
         'boats: for (boat, floor) in &self.floors {
             if floor.0 < level.0 {
                 found = Some(*boat);
