@@ -1,8 +1,6 @@
 // A ship's second name.
 ghost use Rattle.std.specs.Prelude.{◌≤◌};
 
-use levels::refusals::Refusal;
-
 mod makes;
 
 // How long a name may be.

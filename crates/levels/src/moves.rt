@@ -1,5 +1,5 @@
 // What a boat does with its standing: each step takes one by value and hands one back.
-ghost use Rattle.std.specs.Prelude.{◌≡◌};
+ghost use Rattle.std.specs.Prelude.{◌≡◌, min};
 ghost use Rattle.levels.specs.Rules.{newest};
 ghost use Rattle.levels.specs.Rules as rules;
 ghost use Rattle.levels.specs.Standings.{view};
@@ -10,6 +10,13 @@ use crate::numbers::{BoatId, FormNumber, Level, Program};
 use crate::refusals::Refusal;
 use crate::rules::newest;
 use crate::standing::Standing;
+
+// The highest form that a level allows to a program: the lower of both. They are numbers of two widths, cast where nothing is lost.
+fn highest(level: Level, program: Program) -> FormNumber
+    ensures { result.0 ≡ min level.0 (rules.newest program.0) }
+{
+    FormNumber(level.0.min(newest(program).0 as u32) as u8)
+}
 
 impl Standing {
     // A boat at its start: program, floor and level are 1.
@@ -57,12 +64,11 @@ impl Standing {
     }
 
     // A level that is heard is taken if it is above its own.
-    pub fn raised(self, level: Level) -> Standing
+    pub fn raised(mut self, level: Level) -> Standing
         ensures { view result ≡ spec.raised (view self) level.0 }
     {
-        let mut raised = self;
-        raised.level = self.level.max(level);
-        raised
+        self.level = self.level.max(level);
+        self
     }
 
     // The level up to which forms may be used towards another boat: its own level, whoever that is.
@@ -76,16 +82,13 @@ impl Standing {
     pub fn say_form(self, to: BoatId) -> FormNumber
         ensures { result.0 ≡ rules.say_form (view self) to.0 }
     {
-        let level = self.may_use(to).0;
-        let newest = newest(self.program).0;
-        FormNumber(level.min(newest as u32) as u8)
+        highest(self.may_use(to), self.program)
     }
 
     // The form in which it keeps a word that came in some form: the lower of that and what its level and its program allow.
     pub fn keep_form(self, came: FormNumber) -> FormNumber
         ensures { result.0 ≡ rules.keep_form (view self) came.0 }
     {
-        let own = FormNumber(self.level.0.min(newest(self.program).0 as u32) as u8);
-        came.min(own)
+        came.min(highest(self.level, self.program))
     }
 }

@@ -1,4 +1,4 @@
-// What each program knows.
+// What each program knows, a module for each (docs/DECISIONS.md, "Forms of code").
 
 pub mod program1 {
     // The greatest form that program 1 reads and writes.

@@ -24,7 +24,7 @@ pub enum Refusal {
 }
 
 impl Refusal {
-    // The number that a refusal is known by, if it has one.
+    // The number that a refusal is known by on the air, if it has one.
     pub fn number(self) -> Option<u8>
         ensures { result ≡ number_of (verdict self) }
     {

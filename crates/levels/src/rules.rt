@@ -21,7 +21,7 @@ pub fn newest(program: Program) -> FormNumber
 pub fn reads(program: Program, form: FormNumber) -> bool
     ensures { result ≡ spec.reads program.0 form.0 }
 {
-    form.0 >= 1 && form.0 <= newest(program).0
+    (1..=newest(program).0).contains(&form.0)
 }
 
 // Does a station judge a message at all? One for another is passed over, whatever is in it.

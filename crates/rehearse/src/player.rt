@@ -1,6 +1,4 @@
 // A rehearsal with what becomes of its messages.
-ghost use Rattle.std.specs.Prelude.{◌≤◌};
-
 use crate::answers::{Answer, Output, Reason, Refused};
 use fleet::fleet::Fleet;
 use levels::numbers::{BoatId, Level};
@@ -45,7 +43,7 @@ pub struct Player {
 impl Player {
     // So many boats at their start, all of them on the harbour's list.
     pub(crate) fn new(heap: Global, boats: u16) -> Result<Player, Refusal> {
-        let mut rehearsal = Rehearsal::new(heap, boats as usize)?;
+        let mut rehearsal = Rehearsal::new(heap, usize::from(boats))?;
         for boat in (1..=boats).map(BoatId) {
             rehearsal.play(Event::Enlist { boat })?;
         }
@@ -98,7 +96,7 @@ impl Player {
         let mut boats = self.fleet().harbour().boats().keys().copied();
         boats.find(|boat| {
             self.standing(*boat)
-                .is_some_and(|standing| standing.program.0 < level.0)
+                .is_some_and(|standing| standing.program.is_below(level))
         })
     }
 
@@ -152,12 +150,10 @@ impl Player {
         }
     }
 
-    // What a drawn step may speak of. There is always a boat.
-    fn scene(&self) -> Scene
-        ensures { 1 ≤ result.boats }
-    {
+    // What a drawn step may speak of.
+    fn scene(&self) -> Scene {
         Scene {
-            boats: self.fleet().boats().len().clamp(1, 8) as u16,
+            boats: u16::try_from(self.fleet().boats().len()).unwrap_or(u16::MAX),
             words: self.fleet().words().len() as u64,
             notices: self.fleet().notices().len() as u64,
         }
@@ -167,7 +163,9 @@ impl Player {
     pub(crate) fn draw(&mut self, seed: u64, count: u64, out: &mut Output) -> io::Result<()> {
         let mut draws = Draws::new(seed);
         for _ in 0..count {
-            let step = draws.step(self.scene());
+            let Some(step) = draws.step_if_any(self.scene()) else {
+                break;
+            };
             let echo = format!(in self.heap; "{step}")?;
             self.step(step, echo.as_str(), out)?;
         }

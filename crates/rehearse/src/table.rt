@@ -1,8 +1,9 @@
 // The table of the boats.
 use fleet::fleet::{Fleet, Vessel};
 use forms::sent::Sent;
-use levels::numbers::{BoatId, FormNumber, Program};
-use levels::rules::{newest, reads};
+use levels::numbers::{BoatId, FormNumber};
+use levels::programs::program3;
+use levels::rules::reads;
 use levels::standing::Standing;
 use logbooks::log::Logbook;
 use std::alloc::{AllocError, Global};
@@ -25,7 +26,7 @@ fn in_a_file(boats: &[Vessel], form: FormNumber) -> bool {
 
 // The forms that are on the air or kept by some boat, of those that any program writes.
 fn forms_in_use(heap: Global, fleet: &Fleet) -> Result<Vec<FormNumber>, AllocError> {
-    (1..=newest(Program(u32::MAX)).0)
+    (1..=program3::GREATEST_FORM)
         .map(FormNumber)
         .filter(|form| on_air(fleet.words(), *form) || in_a_file(fleet.boats(), *form))
         .collect(heap)
@@ -33,10 +34,9 @@ fn forms_in_use(heap: Global, fleet: &Fleet) -> Result<Vec<FormNumber>, AllocErr
 
 // Does the boat that a word is for read it now?
 fn can_be_read(fleet: &Fleet, word: Sent) -> bool {
-    match fleet.boat(word.to) {
-        Some(vessel) => reads(vessel.standing.program, word.spoken.form()),
-        None => false,
-    }
+    fleet
+        .boat(word.to)
+        .is_some_and(|vessel| reads(vessel.standing.program, word.spoken.form()))
 }
 
 // Can every word that was ever sent be read now?

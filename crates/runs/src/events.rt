@@ -2,7 +2,8 @@
 use forms::word::Spoken;
 use levels::numbers::{BoatId, Level, Program};
 
-// One event. Words and notices are numbered apart, from 0, in the order in which they were sent.
+// One event. (The events of the fleet in memory, in `world`, have no fates, and its programs always run: another list.)
+// Words and notices are numbered apart, from 0, in the order in which they were sent.
 #[derive(Clone, Copy)]
 pub enum Event {
     // the harbour puts a boat on its list

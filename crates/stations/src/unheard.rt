@@ -1,4 +1,4 @@
-// Why a message is not taken. Whatever is not taken changes nothing.
+// Why a message is not taken: an error with its cause. Whatever is not taken changes nothing.
 ghost use Rattle.std.specs.Prelude.{◌≡◌};
 ghost use Rattle.levels.specs.declared.refusals.Refusal.TheVariants.{NoMemory};
 ghost use Rattle.levels.specs.Verdicts.{number_of};

@@ -1,7 +1,7 @@
 // What is said. A message may come at once, late, more than once, or never.
 use levels::numbers::{BoatId, Level, Program};
 
-// What boats and harbour tell each other about programs. Each states a fact that stays true for ever.
+// What boats and harbour tell each other about programs. Each states a fact that stays true for ever. (Stations with files send `messages::Message`, which has words and numbers too.)
 #[derive(Clone, Copy)]
 pub enum Notice {
     // to the harbour: that floor was promised

@@ -25,7 +25,7 @@ impl Boat {
     {
         let before = self.memory.standing;
         let program = before.program;
-        self.memory.answered = self.memory.answered && program <= before.floor;
+        self.memory.answered &= program <= before.floor;
         self.memory.standing = before.promised();
         Step {
             record: (before.floor < program).then_some(Record::Floor(program)),
@@ -92,7 +92,7 @@ impl Memory {
         }
         let most = self.standing.keep_form(form);
         self.log.take(from, number, word, most)?;
-        let kept = word.read().put(FormNumber(form.0.min(most.0)));
+        let kept = word.read().put(form.min(most));
         Ok(Step {
             record: Some(Record::Word {
                 from,
@@ -107,7 +107,7 @@ impl Memory {
     fn assure(&mut self, floor: Program) -> Step
         ensures { (deed_of result, known self.new) ≡ spec.assuring (known self.old) floor.0 }
     {
-        self.answered = self.answered || self.standing.floor <= floor;
+        self.answered |= self.standing.floor <= floor;
         Step::default()
     }
 

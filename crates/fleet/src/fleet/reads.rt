@@ -23,8 +23,7 @@ impl Fleet {
     pub fn boat(&self, boat: BoatId) -> Option<&Vessel>
         ensures { Found (world self.now) boat.0 (option_copied result) }
     {
-        let place = (boat.0 as usize).checked_sub(1)?;
-        self.boats.get(place)
+        self.boats.get(boat.place()?)
     }
 
     // The harbour's ledger.

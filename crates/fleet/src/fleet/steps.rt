@@ -22,7 +22,7 @@ use std::collections::BTreeMap;
 use world::events::Event;
 use world::messages::Notice;
 
-// A level is told to each boat of a list.
+// A level is told to each boat of a list. There is room for all, so that nothing can fail here: `extend` may.
 fn tell_each(notices: &mut Vec<Notice>, boats: &BTreeMap<BoatId, Program>, level: Level)
     requires { vec_len notices.old + btree_map_len boats.now ≤ vec_capacity notices.old }
     ensures { notices.new.items ≡ notices.old.items ++ spec.to_each level.0 (listed boats.now) }
@@ -37,7 +37,7 @@ fn boat_mut(boats: &mut Vec<Vessel>, boat: BoatId) -> Result<&mut Vessel, Refusa
     ensures* writes_back { sem 𝓛 (LendsBoat boats.entry boat.0 result) }
     ensures value { Lookup boats.old.items boat.0 result }
 {
-    let Some(place) = (boat.0 as usize).checked_sub(1) else {
+    let Some(place) = boat.place() else {
         return Err(Refusal::Invalid);
     };
     let Some(vessel) = boats.get_mut(place) else {
@@ -50,14 +50,14 @@ fn boat_mut(boats: &mut Vec<Vessel>, boat: BoatId) -> Result<&mut Vessel, Refusa
 fn tell_floor(notices: &mut Vec<Notice>, boat: BoatId, floor: Program) -> Result<(), Refusal>
     ensures { Tries (Ok (floor_told notices.old.items boat.0 floor.0)) result notices.old.items notices.new.items }
 {
-    if floor.0 > 1 {
+    if floor > Program(1) {
         notices.push(Notice::Promised { from: boat, floor })?;
     }
     Ok(())
 }
 
 impl Fleet {
-    // A program begins on a boat, with the standing that it makes of the last: what was not written down is forgotten, and a floor above 1 is told.
+    // A program begins on a boat, with the standing that `change` makes of the one before: what was not written down is forgotten, and a floor above 1 is told.
     fn begin<F: FnOnce(Standing) -> Result<Standing, Refusal>>(
         &mut self,
         boat: BoatId,

@@ -20,7 +20,7 @@ use stations::unheard::Unheard;
 use std::alloc::{AllocError, Global};
 use std::collections::BTreeMap;
 
-// A level to each boat of a list.
+// A level to each boat of a list. The message is written out, since the chain is proved by what its closure makes.
 fn tell_each(
     heap: Global,
     boats: &BTreeMap<BoatId, Program>,

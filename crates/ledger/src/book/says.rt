@@ -16,7 +16,7 @@ impl Ledger {
         let mut found = None;
         // a loop with a label, left at the first boat that has not promised (docs/DECISIONS.md, "Forms of code")
         'boats: for (boat, floor) in &self.floors {
-            if floor.0 < level.0 {
+            if floor.is_below(level) {
                 found = Some(*boat);
                 break 'boats;
             }
@@ -31,7 +31,7 @@ impl Ledger {
         if level.0 == 0 {
             return Err(Refusal::Invalid);
         }
-        if level.0 > 1 && self.floors.is_empty() {
+        if level > Level(1) && self.floors.is_empty() {
             return Err(Refusal::NotPromised);
         }
         if self.first_without(level).is_some() {

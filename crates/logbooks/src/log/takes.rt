@@ -100,7 +100,7 @@ impl Logbook {
         self.put(slot, last)
     }
 
-    // The power goes: nothing newer than what is kept is known any more. The library says what is written in `retain`, and of a loop over `values_mut` it doesn't.
+    // The power goes: nothing newer than what is kept is known any more. By `retain`, whose contract says what becomes of each ship; that of a loop over `values_mut` does not.
     pub fn fall(&mut self)
         ensures { log self.new ≡ fallen (log self.old) }
     {

@@ -24,7 +24,7 @@ fn behind(boats: &BTreeMap<BoatId, Program>, level: Level) -> usize
     ensures count { result ≡ spec.behind level.0 (listed boats.now) }
     ensures most { result ≤ btree_map_len boats.now }
 {
-    boats.values().filter(|floor| floor.0 < level.0).count()
+    boats.values().filter(|floor| floor.is_below(level)).count()
 }
 
 // One notice for each boat of a list comes.
@@ -46,10 +46,9 @@ impl Rehearsal {
     fn standing_of(&self, boat: BoatId) -> Standing
         ensures { view result ≡ (boat_of (world self.now.fleet) boat.0).standing }
     {
-        match self.fleet.boat(boat) {
-            Some(vessel) => vessel.standing,
-            None => Standing::first(),
-        }
+        self.fleet
+            .boat(boat)
+            .map_or(Standing::first(), |vessel| vessel.standing)
     }
 
     // Does a boat of the list run a program below a level?
@@ -59,14 +58,14 @@ impl Rehearsal {
         let boats = self.fleet.harbour().boats();
         boats
             .keys()
-            .any(|boat| self.standing_of(*boat).program.0 < level.0)
+            .any(|boat| self.standing_of(*boat).program.is_below(level))
     }
 
     // A boat promises a level, or tells again that it has.
     fn vouch(&self, boat: BoatId, level: Level) -> Event
         ensures { result ≡ spec.vouch (world self.now.fleet) level.0 boat }
     {
-        if self.standing_of(boat).floor.0 < level.0 {
+        if self.standing_of(boat).floor.is_below(level) {
             Event::Promise { boat }
         } else {
             Event::Tick { boat }
@@ -98,7 +97,7 @@ impl Rehearsal {
         // counted here, since it goes up by two, and only where a boat vouches
         let mut next = self.fleet.notices().len();
         for (boat, floor) in boats {
-            if floor.0 < level.0 {
+            if floor.is_below(level) {
                 self.vouch_one(events, *boat, level, next)?;
                 next += 2;
             }
@@ -126,7 +125,7 @@ impl Rehearsal {
         if level.0 == 0 {
             return Err(Refusal::Invalid);
         }
-        if level.0 > 1 && self.fleet.harbour().boats().is_empty() {
+        if level > Level(1) && self.fleet.harbour().boats().is_empty() {
             return Err(Refusal::NotPromised);
         }
         if self.outdated(level) {

@@ -24,7 +24,7 @@ impl Waters {
         requires same { (v : _) (r : _) (u : _) → FnOnceReturnsAtMut F.FnOnce act v r u → call_sign u ≡ call_sign v }
         ensures { Obeys (FnOnceReturnsAtMut F.FnOnce act) boat.0 result (world self.old) (world self.new) }
     {
-        let Some(place) = (boat.0 as usize).checked_sub(1) else {
+        let Some(place) = boat.place() else {
             return Err(Unheard::Refused(Refusal::Invalid));
         };
         let Some(vessel) = self.vessels.get_mut(place) else {
