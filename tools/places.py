@@ -141,7 +141,7 @@ for path, lines in FILES.items():
                 add("3a", path, number, f"{name}: {part.strip()}")
             elif re.match(r"(if .* \{ )(return \S+; \}|found = .*break.*|count \+= 1; \})+ ?\}?$", joined) or re.match(r"\w+\.push\w*\(", joined):
                 add("3b", path, number, f"{name}: {part.strip()}")
-        if name == "place":
+        if name == "place" and any(re.match(r" *for ", part) for _, part in body):
             add("6b", path, start, "fn place")
 
 for plain, places in bodies.items():

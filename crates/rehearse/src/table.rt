@@ -34,9 +34,7 @@ fn forms_in_use(heap: Global, fleet: &Fleet) -> Result<Vec<FormNumber>, AllocErr
 
 // Does the boat that a word is for read it now?
 fn can_be_read(fleet: &Fleet, word: Sent) -> bool {
-    fleet
-        .boat(word.to)
-        .is_some_and(|vessel| reads(vessel.standing.program, word.spoken.form()))
+    fleet.boat(word.to).is_some_and(|vessel| reads(vessel.standing.program, word.spoken.form()))
 }
 
 // Can every word that was ever sent be read now?
