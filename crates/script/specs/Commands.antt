@@ -1,6 +1,7 @@
 -- What a script may ask for, and within which bounds.
 -- Assumes nothing.
-use Rattle.std.specs.Prelude.{◌-◌, ◌≤◌}
+use Rattle.std.specs.Prelude.{◌≡◌, ℕ, ◌-◌, ◌≤◌, List, ◌++◌, take, codes}
+use Rattle.std.specs.Fmt.{decimal}
 use Rattle.script.specs.declared.command.Command.{Command}
 use Rattle.script.specs.declared.command.Command.TheVariants.{Boats, Seed, Read, Play}
 use Rattle.script.specs.declared.steps.Message.{Message}
@@ -18,6 +19,15 @@ comes (Notice n) = BringNotice (n - 1)
 abbrev pub Numbered : Message → Type 0
 Numbered (Word n) = 1 ≤ n
 Numbered (Notice n) = 1 ≤ n
+
+-- how a message is written, and the text that names one begins so
+abbrev pub name_of : Message → List ℕ
+name_of (Word n) = codes "w" ++ decimal n
+name_of (Notice n) = codes "n" ++ decimal n
+
+abbrev pub Names : List ℕ → Message → Type 0
+Names t (Word n) = (1 ≤ n) × (take 1 t ≡ codes "w")
+Names t (Notice n) = (1 ≤ n) × (take 1 t ≡ codes "n")
 
 -- programs are 1 to 3, and a level is none of 0
 abbrev pub Sensible : Step → Type 0

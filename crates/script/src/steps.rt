@@ -1,6 +1,6 @@
 // What a script may ask of a rehearsal.
-ghost use Rattle.std.specs.Prelude.{◌≡◌, IfOk};
-ghost use Rattle.script.specs.Commands.{comes, Numbered};
+ghost use Rattle.std.specs.Prelude.{◌≡◌, Some, IfOk};
+ghost use Rattle.script.specs.Commands.{comes, name_of, Names};
 
 use crate::faults::Fault;
 use crate::numbers::number;
@@ -38,7 +38,7 @@ impl Message {
 impl FromStr for Message {
     type Err = Fault;
 
-    ghost from_str_gives = { λ _ message. IfOk message Numbered };
+    ghost from_str_gives = { λ word message. IfOk message (Names word) };
 
     fn from_str(word: &str) -> Result<Message, Fault> {
         let (sort, digits) = word.split_at_checked(1).ok_or(Fault::NotMessage)?;
@@ -52,6 +52,8 @@ impl FromStr for Message {
 }
 
 impl fmt::Display for Message {
+    ghost output = { λ message. Some (name_of message) };
+
     fn fmt<W: fmt::Write>(&self, f: &mut fmt::Formatter<W>) -> fmt::Result {
         match self {
             Message::Word(number) => write!(f, "w{number}"),
