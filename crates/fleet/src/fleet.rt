@@ -9,7 +9,7 @@ mod begins;
 mod reads;
 mod steps;
 
-// A boat: its standing, whether the harbour has answered its promise, which it forgets when its program ends, the numbers that it has used for its words, and what it keeps of those that it took.
+// A boat: its standing, whether the harbour has answered its promise, which it forgets when its program ends, the numbers that it has used for its words, and what it keeps of those that it took. That an answer came hangs on no other field, so it is a flag. (A boat with a file, in `boats`, has the same and gives records to be synced.)
 #[derive(Drop)]
 pub struct Vessel {
     pub standing: Standing,

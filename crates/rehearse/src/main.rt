@@ -12,7 +12,7 @@ use std::io::BufReader;
 use std::process::ExitCode;
 use std::{env, io};
 
-// What the program is asked for by its arguments.
+// What the program is asked for by its arguments: one of three, none of them a failure of another.
 enum Asked {
     Run,
     Help,

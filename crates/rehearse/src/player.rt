@@ -18,7 +18,7 @@ mod deliveries;
 mod reasons;
 mod shows;
 
-// What becomes of a message when it is sent.
+// What becomes of a message when it is sent: one of three, each as good as the others.
 #[derive(Clone, Copy)]
 pub enum Fate {
     // it comes at once

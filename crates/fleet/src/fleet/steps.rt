@@ -194,6 +194,7 @@ impl Fleet {
         Ok(())
     }
 
+    // What a notice says decides what is done: a match on data.
     fn bring_notice(&mut self, number: usize) -> Result<(), Refusal>
         ensures { Tries (spec.bringing_notice (world self.old) number) result (world self.old) (world self.new) }
     {
@@ -230,7 +231,7 @@ impl Fleet {
         Ok(())
     }
 
-    // Plays one event.
+    // Plays one event: whoever plays chose it, so this is a match on data.
     pub fn play(&mut self, event: Event) -> Result<(), Refusal>
         ensures { Tries (spec.play (world self.old) event) result (world self.old) (world self.new) }
     {
