@@ -71,7 +71,7 @@ impl Word {
 }
 
 impl Spoken {
-    // The form that it is in.
+    // The form that it is in: a table, as one match.
     pub fn form(self) -> FormNumber
         ensures { result.0 ≡ form_of (said self) }
     {

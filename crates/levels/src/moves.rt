@@ -18,6 +18,7 @@ fn highest(level: Level, program: Program) -> FormNumber
     FormNumber(level.0.min(newest(program).0 as u32) as u8)
 }
 
+// Each step takes `mut self` and assigns: where there are ghost fields no literal with `..self` can be written.
 impl Standing {
     // A boat at its start: program, floor and level are 1.
     pub fn first() -> Standing

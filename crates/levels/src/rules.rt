@@ -5,7 +5,7 @@ ghost use Rattle.levels.specs.Rules as spec;
 use crate::numbers::{BoatId, FormNumber, Program};
 use crate::programs::{program1, program2, program3};
 
-// The newest form that a program reads and writes. There is no program 0.
+// The newest form that a program reads and writes. There is no program 0. A table, as one match.
 pub fn newest(program: Program) -> FormNumber
     ensures { result.0 ≡ spec.newest program.0 }
 {

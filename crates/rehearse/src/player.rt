@@ -120,7 +120,7 @@ impl Player {
         Ok(Answer::Done)
     }
 
-    // Does what a step asks for, and answers.
+    // Does what a step asks for, and answers. The script chose the step: a match on data.
     fn act(&mut self, step: Step) -> io::Result<Answer> {
         let event = match step {
             Step::Renew { boat, to } => Event::Renew { boat, to },
@@ -159,7 +159,7 @@ impl Player {
         }
     }
 
-    // Plays so many steps, drawn from a seed.
+    // Plays so many steps, drawn from a seed. The number of a turn is needed by nobody, and a step may fail.
     pub(crate) fn draw(&mut self, seed: u64, count: u64, out: &mut Output) -> io::Result<()> {
         let mut draws = Draws::new(seed);
         for _ in 0..count {

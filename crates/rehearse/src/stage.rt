@@ -59,7 +59,7 @@ impl Stage {
         }
     }
 
-    // Plays a command.
+    // Plays a command, which the script chose: a match on data.
     fn play(&mut self, command: Command, echo: &str) -> io::Result<()> {
         let Some(player) = &mut self.player else {
             return self.play_first(command, echo);

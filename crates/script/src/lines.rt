@@ -44,7 +44,7 @@ impl Line {
     }
 }
 
-// Writes a word at the end of a text.
+// Writes a word at the end of a text, byte by byte, each of which may find no memory.
 fn push_word(text: &mut String, word: &[u8]) -> Result<(), AllocError>
     ensures { OnOk result (string_len text.new ≡ string_len text.old + length word.now) }
 {

@@ -123,7 +123,7 @@ impl Memory {
         }
     }
 
-    // What it does with a message that is for it.
+    // What it does with a message that is for it. What a message says decides: a match on data.
     fn judge(&mut self, me: BoatId, message: Message) -> Result<Step, Refusal>
         ensures { Performs deed_of (spec.judging me.0 (known self.old) message.from.0 message.number (telling message.body)) result (known self.old) (known self.new) }
     {

@@ -20,7 +20,7 @@ impl Fleet {
             return Err(Refusal::Invalid);
         }
         let mut vessels = Vec::new(heap);
-        // a loop, since each boat may find no memory
+        // a loop whose number nobody needs, since each boat may find no memory
         for _ in 0..boats {
             vessels.push(Vessel {
                 standing: Standing::first(),

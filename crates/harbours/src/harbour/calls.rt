@@ -84,7 +84,7 @@ impl Harbour {
         Ok(Step::default())
     }
 
-    // What it does with a message that is for it: promises and what was taken come from boats.
+    // What it does with a message that is for it, a match on data: promises and what was taken come from boats.
     fn judge(&mut self, message: Message) -> Result<Step, Refusal>
         ensures { Performs deed_of (spec.judging (book_of self.old) message.from.0 (telling message.body)) result (book_of self.old) (book_of self.new) }
     {

@@ -53,7 +53,7 @@ impl Player {
         F: Fn(&mut Player, Message, Text) -> io::Result<Answer> + Drop,
         requires { F.IsAlwaysCallable act }
     {
-        // A message may send others, so nothing is proved to fall, and the turns are counted instead.
+        // A message may send others, so there is no measure that falls: the turns are counted. The pair is taken apart in a line of its own, since the pattern of a `let..else` does not take it.
         for _ in 0..u64::MAX {
             let Some(sent) = self.next_sent() else {
                 break;

@@ -53,7 +53,7 @@ impl Player {
         Fault::NotPromised.into()
     }
 
-    // Why an event was refused.
+    // Why an event was refused: a match on data, a reason for each refusal.
     fn reason(&self, event: Event, refusal: Refusal) -> Reason {
         match refusal {
             Refusal::Malformed => Fault::NotReadable.into(),
