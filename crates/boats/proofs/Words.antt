@@ -1,6 +1,6 @@
 -- The words of a journal as it lies in its file.
 -- Assumes nothing.
-use Rattle.std.proofs.Common.{◌≡◌, ℕ, suc, ◌+◌, ◌<◌, ◌≤◌, Bool, true, false, cond, not, eqb, ltb, leb, List, [], ◌∷◌, length, get_or, take, is_some, Some, None, Ok, Err, sym, refl, ap, subst, suc-le-suc, zero-le, le_refl, arith}
+use Rattle.std.proofs.Common.{◌≡◌, ℕ, suc, ◌+◌, ◌<◌, ◌≤◌, Bool, true, false, cond, not, eqb, ltb, leb, List, [], ◌∷◌, ◌++◌, length, get_or, take, is_some, Some, None, Ok, Err, sym, refl, ap, subst, suc-le-suc, zero-le, le_refl, arith}
 use Rattle.std.proofs.lemmas.List.{length-map}
 use Rattle.std.proofs.lemmas.Bool.{and_parts, le-leb, lt-leb, leb-true}
 use Rattle.levels.specs.Verdicts.{Verdict, Number, Bad, Memory, Due}
@@ -17,10 +17,10 @@ use Rattle.stations.specs.Journals as journal
 use Rattle.boats.specs.Openings.{replaying}
 use Rattle.stations.specs.Openings.{Unfit}
 use Rattle.stations.specs.Steps.{filed}
-use Rattle.stations.proofs.Files.{grown_at, known_more, none_there, due_none}
+use Rattle.stations.proofs.Files.{grown_all, grown_at, known_more, none_there, due_none}
 
 -- the slots only become more
-placed_length : (x : Kept) (ks : List Kept) → length ks ≤ length (placed x ks)
+pub placed_length : (x : Kept) (ks : List Kept) → length ks ≤ length (placed x ks)
 placed_length x [] = zero-le
 placed_length x (s ∷ ss) = go (ltb s.ship x.ship) (eqb s.ship x.ship) (placed_length x ss)
   where
@@ -29,7 +29,7 @@ placed_length x (s ∷ ss) = go (ltb s.ship x.ship) (eqb s.ship x.ship) (placed_
     go false true h = le_refl _
     go false false h = omega arith
 
-placed_new : (x : Kept) (ks : List Kept) → slot_of x.ship ks ≡ None → suc (length ks) ≤ length (placed x ks)
+pub placed_new : (x : Kept) (ks : List Kept) → slot_of x.ship ks ≡ None → suc (length ks) ≤ length (placed x ks)
 placed_new x [] e = le_refl 1
 placed_new x (s ∷ ss) e = go (ltb s.ship x.ship) (eqb s.ship x.ship) e (placed_new x ss)
   where
@@ -45,8 +45,11 @@ slots_more (word_is b n u) rs = placed_length (slot b n u) (journal.slots rs)
 slots_more (boat_is b f) rs = le_refl _
 slots_more (used_to n) rs = le_refl _
 
+pub slots_all : (ps rs : List Written) → length (journal.slots rs) ≤ length (journal.slots (ps ++ rs))
+slots_all = grown_all (λ rs. length (journal.slots rs)) slots_more
+
 -- the log takes a record, or refuses it
-replayed : (r : Written) (rs : List Written) (y : Log) → replaying (journal.log rs) r ≡ Ok y → y ≡ journal.log (r ∷ rs)
+pub replayed : (r : Written) (rs : List Written) (y : Log) → replaying (journal.log rs) r ≡ Ok y → y ≡ journal.log (r ∷ rs)
 replayed (floor_is f) rs y e = cc
 replayed (level_is k) rs y e = cc
 replayed (word_is b n u) rs y e = go (crowded (journal.log rs) (ship_of u)) e
@@ -57,7 +60,7 @@ replayed (word_is b n u) rs y e = go (crowded (journal.log rs) (ship_of u)) e
 replayed (boat_is b f) rs y e = cc
 replayed (used_to n) rs y e = cc
 
-unfit : (r : Written) (rs : List Written) (m : ℕ) (v : Verdict) → length (journal.slots (r ∷ rs)) ≤ m → Due (replaying (journal.log rs) r) v → Unfit (leb m 4096) v
+pub unfit : (r : Written) (rs : List Written) (m : ℕ) (v : Verdict) → length (journal.slots (r ∷ rs)) ≤ m → Due (replaying (journal.log rs) r) v → Unfit (leb m 4096) v
 unfit (floor_is f) rs m v l d = due_none (journal.log rs) _ v d
 unfit (level_is k) rs m v l d = due_none (journal.log rs) _ v d
 unfit (word_is b n u) rs m v l d = go (crowded (journal.log rs) (ship_of u)) refl v d

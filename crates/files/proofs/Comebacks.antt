@@ -1,6 +1,6 @@
 -- What is recovered of a file of records after a step and any fall.
 -- Assumes nothing.
-use Rattle.std.proofs.Common.{◌≡◌, ℕ, suc, ◌+◌, ◌-◌, ◌<◌, ◌≤◌, Bool, true, false, cond, leb, List, [], ◌∷◌, ◌++◌, length, take, IfOk, Some, None, Ok, Err, Option, Result, sym, refl, ap, ◌∙◌, subst, inl, inr, ⊎_elim, arith}
+use Rattle.std.proofs.Common.{◌≡◌, ℕ, suc, ◌+◌, ◌-◌, ◌<◌, ◌≤◌, Bool, true, false, cond, leb, List, [], ◌∷◌, ◌++◌, length, take, drop, IfOk, Some, None, Ok, Err, Option, Result, sym, refl, ap, ◌∙◌, subst, inl, inr, ⊎_elim, arith}
 use Rattle.std.specs.Prelude.{All}
 use Rattle.std.specs.Option.{option_map}
 use Rattle.std.proofs.lemmas.List.{append_assoc, append-nil, take_at}
@@ -13,8 +13,8 @@ use Rattle.std.proofs.Math.Seq.{take-nil, take-append-add}
 use Rattle.files.specs.Fronts.{Front}
 use Rattle.files.specs.Holdings.{Held, file, ended, cut_to}
 use Rattle.files.specs.Recovery.{records, together, whole_part, wholes}
-use Rattle.files.specs.Falls.{Finished, Fallen, Stepped, Opened}
-use Rattle.files.specs.Comebacks.{Recovered, ComesBack, OpensAgain, Extends, Torn, FallsTorn, StepsTorn, OpensTorn}
+use Rattle.files.specs.Falls.{Finished, Settled, Fallen, Stepped, Opened}
+use Rattle.files.specs.Comebacks.{Recovered, ComesBack, OpensAgain, Extends, Restores, Torn, FallsTorn, StepsTorn, OpensTorn}
 use Rattle.files.proofs.Views.{part_of, ended_is_cut}
 use Rattle.files.proofs.Scans.{Within, records_none}
 use Rattle.files.proofs.CutsBack.{records_more, cut_anywhere}
@@ -22,7 +22,7 @@ use Rattle.files.proofs.CutsBack.{records_more, cut_anywhere}
 abbrev Chunks : Type 0
 Chunks = Option (List (List ℕ))
 
-together_append : (rs qs : List (List ℕ)) → together (rs ++ qs) ≡ together rs ++ together qs
+pub together_append : (rs qs : List (List ℕ)) → together (rs ++ qs) ≡ together rs ++ together qs
 together_append rs qs = flat_map-append (λ r. r) rs qs
 
 -- the whole ones are a first part
@@ -58,6 +58,13 @@ wholes_front m (r ∷ rs) = ⊎_elim (whole (wholes_front (m - length r) rs)) (�
 pub extends : {E : Type 0} (r : Result (Unit {0}) E) (h : Held) (b : List ℕ) (ms : List (List ℕ)) (k : Held) → IfOk r (λ _. Finished h b ms k) → Extends r h b k
 extends (Ok x) h b ms k f rs bs l q e = let a = f.filed l in (a.0 ∙ (λ i. e i ++ q i) ∙ sym (together_append rs bs), a.1)
 extends (Err x) h b ms k f rs bs l q e = tt
+
+pub restores : {E : Type 0} (front : List ℕ → Front) (r : Result (Unit {0}) E) (h : Held) (n : ℕ) (ms : List (List ℕ)) (k : Held) → IfOk r (λ _. Settled h n ms k) → Restores front r h n k
+restores front (Ok x) h n ms k f rs w e p q l =
+    let y : whole_part front (file h) ≡ Some (together rs) = ap (λ (o : Chunks). option_map (λ (v : List (List ℕ)). together v) o) e in
+    let z : w ≡ together rs = cc in
+    (f.filed.0 ∙ ap (take n) (sym q) ∙ take_at w (drop (length w) (file h)) n (sym l) ∙ z, f.filed.1)
+restores front (Err x) h n ms k f rs w e p q l = tt
 
 -- a fall leaves a torn file torn
 torn_cut : (known : List ℕ → Type 0) (rs : List (List ℕ)) (h : Held) (left : ℕ) → Torn known rs h → Torn known rs (cut_to left h)

@@ -1,8 +1,9 @@
 -- Laws of what a file is recovered to.
 -- Assumes nothing.
-use Rattle.std.proofs.Common.{◌≡◌, ℕ, zero, suc, ◌-◌, ◌<◌, ◌≤◌, List, [], ◌∷◌, ◌++◌, length, take, drop, Ok, Err, Some, None, Option, sym, refl, ap, ◌∙◌, not-suc-le-zero, arith, length-drop}
+use Rattle.std.proofs.Common.{◌≡◌, ℕ, zero, suc, ◌+◌, ◌-◌, ◌<◌, ◌≤◌, List, [], ◌∷◌, ◌++◌, length, take, drop, Ok, Err, Some, None, Option, sym, refl, ap, ◌∙◌, not-suc-le-zero, arith, length-drop}
 use Rattle.std.specs.Option.{option_map}
-use Rattle.std.proofs.lemmas.List.{append_assoc, append-nil, take_at, length-append, take-append-drop}
+use Rattle.std.proofs.lemmas.List.{append_assoc, append-nil, take_at, length-append, length-take-le, take-append-drop}
+use Rattle.std.proofs.lemmas.Iterator.Adapters.{option_map_id}
 use Rattle.files.specs.declared.front.Wrong.{Wrong}
 use Rattle.files.specs.Fronts.{Front}
 use Rattle.files.specs.Recovery.{front_case, scan, records, together, whole_part}
@@ -76,6 +77,9 @@ module _ (front : List ℕ → Front) (within : Within front) where
   abbrev pub Passed : List ℕ → List ℕ → Type 0
   Passed bs rest = (past : List ℕ) × (bs ≡ past ++ rest) × (option_map (λ (p : List ℕ). past ++ p) (whole_part front rest) ≡ whole_part front bs)
 
+  pub passed_none : (bs : List ℕ) → Passed bs bs
+  passed_none bs = ([], refl, option_map_id (whole_part front bs))
+
   pub passed_more : (bs rest : List ℕ) (n : ℕ) → Ok (Some n) ≡ front rest → Passed bs rest → Passed bs (drop n rest)
   passed_more bs rest n e h =
       (h.0 ++ take n rest, h.1 ∙ ap (λ (v : List ℕ). h.0 ++ v) (sym (take-append-drop n rest)) ∙ sym (append_assoc h.0 (take n rest) (drop n rest)), sym (both (whole_part front (drop n rest))) ∙ ap (λ (o : Option (List ℕ)). option_map (λ (p : List ℕ). h.0 ++ p) o) (sym (part_whole rest n (sym e))) ∙ h.2)
@@ -102,3 +106,10 @@ module _ (front : List ℕ → Front) (within : Within front) where
   pub passed_all : (bs rest : List ℕ) → length rest ≡ 0 → Passed bs rest → WholeTo bs (length bs - length rest)
   passed_all bs [] l h = passed_end bs [] (ap (option_map (λ (rs : List (List ℕ)). together rs)) records_none) h
   passed_all bs (x ∷ rest) l h = absurd (omega arith)
+
+  -- what is handed back, as the checker reads it
+  pub part_is : (bs : List ℕ) (at : ℕ) → at ≤ length bs → whole_part front bs ≡ Some (take at bs) → WholeTo bs at
+  part_is bs at l h = let k : length (take at bs) ≡ at = length-take-le at bs l in (h, rw k (take-append-drop at bs))
+
+  pub within_part : (bs : List ℕ) (at n : ℕ) → at ≤ length bs → front (drop at bs) ≡ Ok (Some n) → (at + n ≤ length bs) × (0 < n)
+  within_part bs at n l e = let w = within (drop at bs) n e in let k = length-drop at bs in (omega arith, w.0)

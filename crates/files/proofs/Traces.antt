@@ -14,6 +14,11 @@ module _ {S : Type 0} (did : S → Effect → Bool → S → Type 0) where
   stopped_append [] fs s t u d e = let P : S → Type 0 = λ x. Stopped did fs x u in subst P (sym d) e
   stopped_append (x ∷ es) fs s t u d e = inr (d.0, d.1, stopped_append es fs d.0 t u d.2 e)
 
+  -- a stop within the first effects is one of the whole
+  pub stopped_early : (es fs : List Effect) (s u : S) → Stopped did es s u → Stopped did (es ++ fs) s u
+  stopped_early [] fs s u c = absurd c
+  stopped_early (x ∷ es) fs s u c = elim c [ inl e ↦ inl e | inr d ↦ inr (d.0, d.1, stopped_early es fs d.0 u d.2) ]
+
   module _ {Z : Type 0} where
     -- the message at i was sent too
     pub sends_more : (ms : List (Vec ℕ Z)) (i : ℕ) (m : Vec ℕ Z) (bs : List ℕ) (s t u : S) → i < length ms → m ≡ get_or ms i m → bs ≡ vec_items m → Done did (sends (take i ms)) s t → did t (Send bs) true u → Done did (sends (take (i + 1) ms)) s u

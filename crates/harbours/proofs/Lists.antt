@@ -1,12 +1,12 @@
 -- The harbour's journal as it lies in its file.
 -- Assumes nothing.
-use Rattle.std.proofs.Common.{◌≡◌, ℕ, suc, ◌+◌, ◌<◌, ◌≤◌, max, Bool, true, false, cond, not, ◌&&◌, eqb, ltb, leb, List, [], ◌∷◌, length, get_or, take, is_some, Ok, Err, sym, refl, ap, ◌∙◌, subst, le_refl, arith}
+use Rattle.std.proofs.Common.{◌≡◌, ℕ, suc, ◌+◌, ◌<◌, ◌≤◌, max, Bool, true, false, cond, not, ◌&&◌, eqb, ltb, leb, List, [], ◌∷◌, length, get_or, take, drop, is_some, Ok, Err, sym, refl, ap, ◌∙◌, subst, le_refl, arith}
 use Rattle.std.proofs.lemmas.Bool.{and_parts, le-leb, lt-leb, leb-true, cond-false}
 use Rattle.std.proofs.lemmas.List.{length-map}
 use Rattle.std.proofs.lemmas.Bool.Decides.{nat_tests}
 use Rattle.ledger.specs.declared.book.Ledger.{Ledger}
-use Rattle.ledger.specs.Entries.{Entry, entry, floor_of, entered, admitted, heard}
-use Rattle.ledger.specs.Ledgers.{Book, book, entries, entry_of, promised, levelled}
+use Rattle.ledger.specs.Entries.{Entry, entry, floor_of, entered, admitted, heard, entry_of}
+use Rattle.ledger.specs.Ledgers.{Book, book, entries, promised, levelled}
 use Rattle.levels.specs.Verdicts.{Verdict, Number, Bad, Memory, Due}
 use Rattle.records.specs.declared.Record.{Record}
 use Rattle.records.specs.Records.{Written, written, floor_is, level_is, word_is, boat_is, used_to}
@@ -16,6 +16,10 @@ use Rattle.harbours.specs.Openings.{enlisting}
 use Rattle.stations.specs.Openings.{Unfit}
 use Rattle.stations.specs.Steps.{filed}
 use Rattle.stations.proofs.Files.{every_at, grown_at, known_more, none_there, due_none}
+
+pub every_not : (a b : Bool) → a && (false && b) ≡ false
+every_not true b = refl
+every_not false b = refl
 
 -- the list only becomes longer
 heard_length : (b f : ℕ) (es : List Entry) → length (heard b f es) ≡ length es
@@ -54,7 +58,7 @@ same_said x y k e f =
     let F : ℕ → Book = λ n. record { list = x.list; said = n } in
     sym e ∙ ap F (sym f)
 
-enlisted_is : (r : Written) (rs : List Written) (y : Book) → enlisting (recalled rs) r ≡ Ok y → y ≡ recalled (r ∷ rs)
+pub enlisted_is : (r : Written) (rs : List Written) (y : Book) → enlisting (recalled rs) r ≡ Ok y → y ≡ recalled (r ∷ rs)
 enlisted_is (floor_is f) rs y e = let q : recalled rs ≡ y = cc in same_said (recalled rs) y (max 0 (journal.level rs)) q (omega arith)
 enlisted_is (level_is k) rs y e =
     let q : levelled (recalled rs) k ≡ y = cc in
@@ -100,8 +104,12 @@ enlisted_more = known_more recalled enlisting enlisted_is
 pub barred_at : (xs : List Record) (i : ℕ) (r : Record) (x : Book) (v : Verdict) → journal.every journal.harbour_reads (filed xs) ≡ true → i < length xs → r ≡ get_or xs i r → x ≡ recalled (filed (take i xs)) → Due (enlisting x (written r)) v → Unfit (leb (length (journal.boats (filed xs))) 4096) v
 barred_at xs i r x v a h g e d =
     let l = grown_at (λ rs. length (journal.boats rs)) boats_more xs i r h g in
-    let o : journal.harbour_reads (written r) ≡ true = every_at journal.harbour_reads xs i r h g a in
+    let o : journal.harbour_reads (written r) ≡ true = inner (journal.every journal.harbour_reads (filed (drop (i + 1) xs))) (journal.harbour_reads (written r)) (journal.every journal.harbour_reads (filed (take i xs))) (sym (every_at journal.harbour_reads xs i r h g) ∙ a) in
     unfit_boats (written r) (filed (take i xs)) (length (journal.boats (filed xs))) v o l (subst (λ a. Due (enlisting a (written r)) v) e d)
+  where
+    inner : (a b c : Bool) → a && (b && c) ≡ true → b ≡ true
+    inner a true c h = refl
+    inner a false c h = sym (every_not a c) ∙ h
 
 pub fits_list : (l : Ledger) (rs : List Written) → book l ≡ recalled rs → leb (length (journal.boats rs)) 4096 ≡ true
 fits_list l rs e =

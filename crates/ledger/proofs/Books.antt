@@ -1,13 +1,13 @@
 -- What listing and hearing make of what the harbour knows of each boat.
 -- Assumes nothing.
-use Rattle.std.proofs.Common.{◌≡◌, ℕ, ◌<◌, ◌≤◌, max, Bool, true, false, cond, not, ◌&&◌, eqb, ltb, leb, List, [], ◌∷◌, length, is_some, Some, None, Ok, Err, Option, Result, sym, refl, ap, ◌∙◌, inl, inr, arith}
-use Rattle.std.proofs.lemmas.Bool.{cond-true, cond-false, eq-eqb, ne_eqb, lt-ltb, ltb-true, ltb-false, le-ltb, and_from, and_parts, cases_Bool}
+use Rattle.std.proofs.Common.{◌≡◌, ℕ, ◌<◌, ◌≤◌, max, Bool, zero, suc, true, false, cond, not, ◌&&◌, eqb, ltb, leb, List, [], ◌∷◌, length, get_or, is_some, Some, None, Ok, Err, Option, Result, sym, refl, ap, ◌∙◌, inl, inr, suc-le-suc, zero-le, le_of_suc-le-suc, not-suc-le-zero, arith}
+use Rattle.std.proofs.lemmas.Bool.{cond-true, cond-false, eq-eqb, ne_eqb, lt-ltb, ltb-true, ltb-false, le-ltb, le-leb, lt-leb, and_from, and_left, and_right, and_parts, cases_Bool}
 use Rattle.std.proofs.lemmas.Bool.Decides.{nat_tests}
 use Rattle.levels.specs.declared.numbers.Program.{Program}
 use Rattle.levels.specs.declared.refusals.Refusal.{Refusal}
 use Rattle.levels.specs.Verdicts.{Verdict, Number, Replies}
 use Rattle.ledger.specs.Entries.{Entry, entry, above, ascending, floor_of, entered, admitted, heard, lacking, numbers_of}
-use Rattle.ledger.specs.Ledgers.{Book, floor_number, answering, hearing, admitting, promised, restoring}
+use Rattle.ledger.specs.Ledgers.{Book, floor_number, listing, answering, hearing, admitting, promised, restoring}
 
 -- a promise that is heard raises that boat's floor, and no other's
 abbrev pub raised_by : ℕ → Option ℕ → Option ℕ
@@ -29,7 +29,19 @@ floor_heard i b f (x ∷ es) =
       ]
     ]
 
--- and leaves the order
+-- a promise that is not higher changes nothing
+pub heard_lower : (b f g : ℕ) (es : List Entry) → floor_of b es ≡ Some g → f ≤ g → heard b f es ≡ es
+heard_lower b f g [] h l = refl
+heard_lower b f g (e ∷ es) h l = go (eqb e.boat.0 b) h (λ k. heard_lower b f g es k l)
+  where
+    go : (t : Bool) → cond t (Some e.floor.0) (floor_of b es) ≡ Some g → (floor_of b es ≡ Some g → heard b f es ≡ es) → cond t (entry e.boat.0 (max e.floor.0 f) ∷ es) (e ∷ heard b f es) ≡ e ∷ es
+    go true h k =
+        let q : e.floor.0 ≡ g = cc in
+        let m : max e.floor.0 f ≡ e.floor.0 = omega arith in
+        ap (λ n. entry e.boat.0 n ∷ es) m
+    go false h k = ap (λ r. e ∷ r) (k h)
+
+-- and hearing leaves the order
 above_heard : (a b f : ℕ) (es : List Entry) → above a (heard b f es) ≡ above a es
 above_heard a b f [] = refl
 above_heard a b f (x ∷ es) = go (eqb x.boat.0 b)
@@ -120,6 +132,14 @@ above_lower : (a : ℕ) (e : Entry) (es : List Entry) → ltb a e.boat.0 ≡ tru
 above_lower a e [] l h = refl
 above_lower a e (x ∷ es) l h = grind (arith, nat_tests)
 
+-- a boat below a rising list is not on it
+pub below_absent : (b : ℕ) (es : List Entry) → above b es ≡ true → ascending es ≡ true → floor_of b es ≡ None
+below_absent b [] h a = refl
+below_absent b (e ∷ es) h a =
+    let p : (above e.boat.0 es ≡ true) × (ascending es ≡ true) = and_parts (above e.boat.0 es) (ascending es) a in
+    let n : eqb e.boat.0 b ≡ false = grind (arith, nat_tests) in
+    cond-false _ _ _ n ∙ below_absent b es (above_lower b e es h p.0) p.1
+
 -- what changes for one boat changes nothing for those that come after it
 pub known_past : (b : ℕ) (old new es : List Entry) → above b es ≡ true → ascending es ≡ true → ((j : ℕ) → (j ≡ b → ⊥) → floor_of j new ≡ floor_of j old) → Known old es → Known new es
 known_past b old new [] h a same known = tt
@@ -138,6 +158,22 @@ known_all (e ∷ es) a =
 pub lacks_none : (k : ℕ) (list es : List Entry) → Known list es → ((j f : ℕ) → floor_of j list ≡ Some f → k ≤ f) → lacking k es ≡ None
 lacks_none k list [] known h = refl
 lacks_none k list (e ∷ es) known h = cond-false (ltb e.floor.0 k) (Some e.boat.0) (lacking k es) (le-ltb e.floor.0 k (h e.boat.0 e.floor.0 known.0)) ∙ lacks_none k list es known.1 h
+
+-- and by places, where the first that has not promised it is the one found
+pub lacking_none : (k : ℕ) (es : List Entry) → ((i : ℕ) → i < length es → k ≤ (get_or es i (entry 0 0)).floor.0) → lacking k es ≡ None
+lacking_none k [] h = refl
+lacking_none k (e ∷ es) h =
+    let p : k ≤ e.floor.0 = h 0 (suc-le-suc zero-le) in
+    let n : ltb e.floor.0 k ≡ false = grind (arith, nat_tests) in
+    cond-false _ _ _ n ∙ lacking_none k es (λ i l. h (suc i) (suc-le-suc l))
+
+pub lacking_first : (k : ℕ) (es : List Entry) (i : ℕ) → i < length es → ((j : ℕ) → j < i → k ≤ (get_or es j (entry 0 0)).floor.0) → (get_or es i (entry 0 0)).floor.0 < k → lacking k es ≡ Some (get_or es i (entry 0 0)).boat.0
+lacking_first k [] i l h g = absurd (not-suc-le-zero l)
+lacking_first k (e ∷ es) zero l h g = cond-true _ _ _ (lt-ltb _ _ g)
+lacking_first k (e ∷ es) (suc i) l h g =
+    let p : k ≤ e.floor.0 = h 0 (suc-le-suc zero-le) in
+    let n : ltb e.floor.0 k ≡ false = grind (arith, nat_tests) in
+    cond-false _ _ _ n ∙ lacking_first k es i (le_of_suc-le-suc l) (λ j m. h (suc j) (suc-le-suc m)) g
 
 -- hearing leaves the numbers, and who is on the list is said by these
 pub numbers_heard : (b f : ℕ) (es : List Entry) → numbers_of (heard b f es) ≡ numbers_of es
@@ -160,6 +196,25 @@ listed_same j (x ∷ xs) (y ∷ ys) q =
     go : (t : Bool) → is_some (floor_of j xs) ≡ is_some (floor_of j ys) → is_some (cond t (Some x.floor.0) (floor_of j xs)) ≡ is_some (cond t (Some y.floor.0) (floor_of j ys))
     go true s = refl
     go false s = s
+
+-- when a boat is put on the list
+pub listing_new : (x : Book) (b : ℕ) → (b ≡ 0 → ⊥) → floor_of b x.list ≡ None → x.said ≤ 1 → length x.list < 4096 → listing x b ≡ Ok (record { list = entered b x.list; said = x.said })
+listing_new x b z n s l =
+    cond-false _ _ _ (ne_eqb b 0 z) ∙ cond-false _ _ _ (ap is_some n) ∙ cond-false _ _ _ (le-ltb 1 x.said s) ∙ cond-false _ _ _ (lt-leb 4096 (length x.list) l)
+
+-- a boat that was on the list, that comes on it, and for which there is no place
+pub admitting_old : (x : Book) (b : ℕ) → is_some (floor_of b x.list) ≡ true → admitting x b ≡ Ok x
+admitting_old x b h =
+    let F : List Entry → Result Book Verdict = λ l. Ok (record { list = l; said = x.said }) in
+    cond-false _ _ _ (and_left (not (is_some (floor_of b x.list))) (leb 4096 (length x.list)) (ap not h)) ∙ ap F (cond-true _ _ _ h)
+
+pub admitting_new : (x : Book) (b : ℕ) → floor_of b x.list ≡ None → length x.list < 4096 → admitting x b ≡ Ok (record { list = entered b x.list; said = x.said })
+admitting_new x b n l =
+    let F : List Entry → Result Book Verdict = λ l. Ok (record { list = l; said = x.said }) in
+    cond-false _ _ _ (and_right (not (is_some (floor_of b x.list))) (leb 4096 (length x.list)) (lt-leb 4096 (length x.list) l)) ∙ ap F (cond-false _ _ _ (ap is_some n))
+
+pub admitting_full : (x : Book) (b : ℕ) → floor_of b x.list ≡ None → 4096 ≤ length x.list → admitting x b ≡ Err (Number 6)
+admitting_full x b n l = cond-true _ _ _ (and_from (not (is_some (floor_of b x.list))) (leb 4096 (length x.list)) (ap (λ o. not (is_some o)) n) (le-leb 4096 (length x.list) l))
 
 -- of a boat that is on the list every promise is heard
 pub hears_it : (y z : Book) (b f : ℕ) (r : Result Program Refusal) → is_some (floor_of b y.list) ≡ true → Replies floor_number (hearing y b f) r y z → z ≡ record { list = heard b f y.list; said = y.said }

@@ -11,8 +11,8 @@ use Rattle.std.proofs.lemmas.Bool.Decides.{nat_tests}
 use Rattle.std.proofs.lemmas.Map.Keys.{sorted_head, sorted_tail}
 use Rattle.levels.specs.declared.numbers.BoatId.{BoatId}
 use Rattle.levels.specs.declared.numbers.Program.{Program}
-use Rattle.ledger.specs.Entries.{entry, above, ascending, floor_of, entered, heard}
-use Rattle.ledger.specs.Ledgers.{entry_of, listed, floor_in}
+use Rattle.ledger.specs.Entries.{entry, above, ascending, floor_of, entered, heard, entry_of}
+use Rattle.ledger.specs.Ledgers.{listed, floor_in}
 use Rattle.ledger.proofs.Books.{none_is}
 
 -- the order of the keys

@@ -13,6 +13,10 @@ pub record Entry : Type 0 where
 abbrev pub entry : ℕ → ℕ → Entry
 entry b f = record { boat = record { 0 = b }; floor = record { 0 = f } }
 
+-- a pair of the map as an entry
+abbrev pub entry_of : BoatId × Program → Entry
+entry_of p = record { boat = p.0; floor = p.1 }
+
 -- the numbers of the boats rise
 abbrev pub above : ℕ → List Entry → Bool
 above b [] = true

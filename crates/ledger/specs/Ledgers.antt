@@ -5,7 +5,7 @@ use Rattle.std.specs.BTreeMap.{BTreeMap}
 use Rattle.levels.specs.declared.numbers.BoatId.{BoatId}
 use Rattle.levels.specs.declared.numbers.Program.{Program}
 use Rattle.ledger.specs.declared.book.Ledger.{Ledger}
-use Rattle.ledger.specs.Entries.{Entry, floor_of, entered, admitted, heard, lacking}
+use Rattle.ledger.specs.Entries.{Entry, entry_of, floor_of, entered, admitted, heard, lacking}
 use Rattle.levels.specs.Verdicts.{Verdict, Number, Bad}
 
 -- what a ledger holds
@@ -14,9 +14,6 @@ pub record Book : Type 0 where
   pub said : ℕ
 
 -- a map's list: its pairs, by the keys' order
-abbrev pub entry_of : BoatId × Program → Entry
-entry_of p = record { boat = p.0; floor = p.1 }
-
 abbrev pub listed : BTreeMap BoatId Program → List Entry
 listed m = map entry_of m.entries
 

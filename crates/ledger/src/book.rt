@@ -1,7 +1,8 @@
 // The harbour's ledger.
-ghost use Rattle.std.specs.Prelude.{◌≤◌};
+ghost use Rattle.std.specs.Prelude.{◌≡◌, ◌≤◌, true, map};
 ghost use Rattle.std.specs.BTreeMap.{btree_map_len};
 ghost use Rattle.ledger.specs.declared.book.TheConstants.{MOST};
+ghost use Rattle.ledger.specs.Entries.{entry_of, ascending};
 
 use levels::numbers::{BoatId, Level, Program};
 use std::alloc::Global;
@@ -19,12 +20,12 @@ const MOST: usize = 4096;
 pub struct Ledger {
     floors: BTreeMap<BoatId, Program>,
     said: Level,
+    ghost sorted: { ascending (map entry_of floors.entries) ≡ true },
     ghost few: { btree_map_len floors ≤ MOST },
     ghost begun: { 1 ≤ said.0 },
 }
 
 impl Ledger {
-    ghost use Rattle.std.specs.Prelude.{◌≡◌};
     ghost use Rattle.ledger.specs.Ledgers.{book, blank, listed};
 
     // A ledger with nobody on its list, and level 1 said.

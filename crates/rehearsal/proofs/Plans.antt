@@ -1,14 +1,13 @@
 -- What the loops make, step by step, that list the events for a level and play them.
 -- Assumes nothing.
-use Rattle.std.proofs.Common.{◌≡◌, ℕ, ◌+◌, ◌*◌, ◌<◌, ◌≤◌, Bool, true, ◌&&◌, ◌||◌, ltb, List, [], ◌∷◌, ◌++◌, map, length, get_or, take, drop, is_ok, Ok, Err, Result, sym, refl, ap, ◌∙◌, subst, append_assoc, arith}
+use Rattle.std.proofs.Common.{◌≡◌, ℕ, ◌+◌, ◌*◌, ◌<◌, ◌≤◌, Bool, true, ◌&&◌, ◌||◌, ltb, List, [], ◌∷◌, ◌++◌, map, length, get_or, take, drop, is_ok, Ok, Err, Result, sym, refl, ap, ◌∙◌, subst, append_assoc, append-nil, arith}
 use Rattle.std.proofs.lemmas.List.{take_more, at_drop_more}
 use Rattle.std.proofs.lemmas.Bool.{cond_both}
 use Rattle.std.specs.List.{filter, list_any, range_with_len}
 use Rattle.std.specs.Map.{keys_of, values_of}
 use Rattle.levels.specs.declared.numbers.BoatId.{BoatId}
 use Rattle.levels.specs.declared.numbers.Program.{Program}
-use Rattle.ledger.specs.Entries.{Entry}
-use Rattle.ledger.specs.Ledgers.{entry_of}
+use Rattle.ledger.specs.Entries.{Entry, entry_of}
 use Rattle.levels.specs.Verdicts.{Verdict, Number, Bad, Memory, Due}
 use Rattle.levels.specs.Standings.{first}
 use Rattle.world.specs.declared.events.Event.{Event}
@@ -27,9 +26,10 @@ pub behind_counts : (k : ℕ) (ps : List (BoatId × Program)) → behind k (map 
 behind_counts k [] = refl
 behind_counts k (p ∷ ps) = let n = behind_counts k ps in cond_both (ltb p.1.0 k) (1 + behind k (map entry_of ps)) (behind k (map entry_of ps)) (λ m. m ≡ length (filter (λ (q : Program). ltb q.0 k) (values_of (p ∷ ps)))) (λ t. simp t (omega (arith, n))) (λ t. simp t n)
 
-pub behind_most : (k : ℕ) (ps : List (BoatId × Program)) → behind k (map entry_of ps) ≤ length ps
+-- at most all are behind
+pub behind_most : (k : ℕ) (es : List Entry) → behind k es ≤ length es
 behind_most k [] = omega arith
-behind_most k (p ∷ ps) = let m = behind_most k ps in cond_both (ltb p.1.0 k) (1 + behind k (map entry_of ps)) (behind k (map entry_of ps)) (λ n. n ≤ length (p ∷ ps)) (λ t. omega arith) (λ t. omega arith)
+behind_most k (e ∷ es) = let m = behind_most k es in cond_both (ltb e.floor.0 k) (1 + behind k es) (behind k es) (λ n. n ≤ length (e ∷ es)) (λ t. omega arith) (λ t. omega arith)
 
 pub outdated_any : (w : World) (k : ℕ) (ps : List (BoatId × Program)) → outdated w k (map entry_of ps) ≡ list_any (λ (b : BoatId). ltb (boat_of w b.0).standing.program k) (keys_of ps)
 outdated_any w k [] = refl
@@ -38,6 +38,13 @@ outdated_any w k (p ∷ ps) = ap (λ t. ltb (boat_of w p.0.0).standing.program k
 pub bringing_numbers : (n : ℕ) (ps : List (BoatId × Program)) → bringing (map entry_of ps) n ≡ map (λ m. BringNotice m) (range_with_len n (length ps))
 bringing_numbers n [] = refl
 bringing_numbers n (p ∷ ps) = ap (λ es. BringNotice n ∷ es) (bringing_numbers (n + 1) ps)
+
+-- a list that is made from its start: what is there, and what is left
+pub pushed : (was now new rest left all : List Event) → now ≡ was ++ new → left ≡ new ++ rest → was ++ left ≡ all → now ++ rest ≡ all
+pushed was now new rest left all p q r = ap (λ es. es ++ rest) p ∙ append_assoc was new rest ∙ sym (ap (λ es. was ++ es) q) ∙ r
+
+pub finished : (now left all : List Event) → left ≡ [] → now ++ left ≡ all → now ≡ all
+finished now left all q r = sym (append-nil now) ∙ sym (ap (λ es. now ++ es) q) ∙ r
 
 -- a list that three pushes make
 pub three : (a b c d : List Event) (v x y z : Event) → b ≡ a ++ v ∷ [] → v ≡ x → c ≡ b ++ y ∷ [] → d ≡ c ++ z ∷ [] → d ≡ a ++ x ∷ y ∷ z ∷ []

@@ -6,12 +6,17 @@ use Rattle.records.specs.Records.{Written}
 use Rattle.runs.specs.declared.events.Fate.{Fate}
 use Rattle.runs.specs.declared.events.Fate.TheVariants.{Whole, Killed, Cut}
 use Rattle.runs.specs.Disks.{Disk, file, appended, flushed, reached, spoken, shortened, after, told}
+use Rattle.runs.specs.Worlds.{writes}
 use Rattle.runs.proofs.Parts.{Part, same, part_then, part_behind, part_append, part_drop, Each, each_take}
 
 -- a step syncs, or it writes nothing and nothing waits for a sync
 pub data Kind (d : Disk) : Bool → List Written → Type 0 where
   syncs : (rs : List Written) → Kind d true rs
   quiet : d.pending ≡ [] → Kind d false []
+
+pub kind_of : (d : Disk) (rs : List Written) → d.pending ≡ [] → Kind d (writes rs) rs
+kind_of d [] e = quiet e
+kind_of d (r ∷ rs) e = syncs (r ∷ rs)
 
 -- d did rs and is t
 pub record After (rs : List Written) (d t : Disk) : Type 0 where

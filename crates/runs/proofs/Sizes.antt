@@ -23,6 +23,10 @@ past_placed n x (k ∷ ks) h p =
     cond_both (ltb k.ship x.ship) (k ∷ placed x ks) (cond (eqb k.ship x.ship) (x ∷ ks) (x ∷ k ∷ ks)) (λ ys. past n ys ≡ true)
     (λ t. p) (λ t. cond_both (eqb k.ship x.ship) (x ∷ ks) (x ∷ k ∷ ks) (λ ys. past n ys ≡ true) (λ u. h) (λ u. h))
 
+past_lower : (n m : ℕ) (ks : List Kept) → n ≤ m → past m ks ≡ true → past n ks ≡ true
+past_lower n m [] l p = refl
+past_lower n m (k ∷ ks) l p = grind (arith, nat_tests)
+
 past_same : (n m : ℕ) (ks : List Kept) → n ≡ m → past m ks ≡ true → past n ks ≡ true
 past_same n m ks e p = subst (λ (x : ℕ). past x ks ≡ true) (sym e) p
 

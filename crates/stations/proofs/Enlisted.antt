@@ -5,6 +5,7 @@ use Rattle.std.proofs.lemmas.Bool.{eq-eqb, ltb-false, cond-true, cond-false, con
 use Rattle.ledger.specs.Entries.{Entry, entry, floor_of, entered, admitted, heard}
 use Rattle.ledger.specs.Ledgers as ledger
 use Rattle.ledger.specs.Ledgers.{Book}
+use Rattle.ledger.proofs.Books.{heard_lower}
 use Rattle.levels.specs.Rules.{accepts}
 use Rattle.levels.specs.Verdicts.{Verdict, Number, Bad}
 use Rattle.messages.specs.Messages.{Telling, word, promise, level, has_it, Letter}
@@ -30,18 +31,6 @@ heard_entered b (e ∷ es) h = go (ltb e.boat.0 b) (eqb e.boat.0 b) refl h (hear
     go p true g h k = absurd cc
     go true false g h k = cond-false (eqb e.boat.0 b) (entry e.boat.0 (max e.floor.0 1) ∷ entered b es) (e ∷ heard b 1 (entered b es)) g ∙ ap (λ l. e ∷ l) (k h)
     go false false g h k = cond-true (eqb b b) (entry b 1 ∷ e ∷ es) (entry b 1 ∷ heard b 1 (e ∷ es)) (eq-eqb b b refl)
-
--- a promise that is not higher changes nothing
-heard_lower : (b f g : ℕ) (es : List Entry) → floor_of b es ≡ Some g → f ≤ g → heard b f es ≡ es
-heard_lower b f g [] h l = refl
-heard_lower b f g (e ∷ es) h l = go (eqb e.boat.0 b) h (λ k. heard_lower b f g es k l)
-  where
-    go : (t : Bool) → cond t (Some e.floor.0) (floor_of b es) ≡ Some g → (floor_of b es ≡ Some g → heard b f es ≡ es) → cond t (entry e.boat.0 (max e.floor.0 f) ∷ es) (e ∷ heard b f es) ≡ e ∷ es
-    go true h k =
-        let q : e.floor.0 ≡ g = cc in
-        let m : max e.floor.0 f ≡ e.floor.0 = omega arith in
-        ap (λ n. entry e.boat.0 n ∷ es) m
-    go false h k = ap (λ r. e ∷ r) (k h)
 
 module _ (rs : List Written) where
   abbrev es : List Entry

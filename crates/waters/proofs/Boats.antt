@@ -21,7 +21,7 @@ use Rattle.waters.specs.declared.waters.Waters.{Waters}
 use Rattle.waters.specs.Waters.{vessel_at, sent, world, asking, sailed, Obeys}
 
 -- its number is kept
-numbered_set : (n i : ℕ) (vs : List Vessel) (v u : Vessel) → i < length vs → v ≡ get_or vs i v → call_sign u ≡ call_sign v → numbered n vs ≡ true → numbered n (set vs i u) ≡ true
+pub numbered_set : (n i : ℕ) (vs : List Vessel) (v u : Vessel) → i < length vs → v ≡ get_or vs i v → call_sign u ≡ call_sign v → numbered n vs ≡ true → numbered n (set vs i u) ≡ true
 numbered_set n i [] v u l e s h = absurd (omega arith)
 numbered_set n zero (x ∷ xs) v u l e s h =
     ap (λ (c : ℕ). eqb c n && numbered (suc n) xs) (s ∙ ap call_sign e) ∙ h
@@ -85,7 +85,7 @@ module _ (w : Waters) (i : ℕ) (v : Vessel) (l : i < length (vec_items w.vessel
   still_numbered u s = numbered_set 1 i (vec_items w.vessels) v u l e s w.numbers
 
   -- what a boat that is asked for something does, in the world
-  asked_is : (want : ℕ → worlds.Vessel → Result (List Letter × worlds.Vessel) Verdict) → asking (world w) (suc i) want ≡ sailed (world w) (suc i) (want (call_sign v) (vessel_of v))
+  pub asked_is : (want : ℕ → worlds.Vessel → Result (List Letter × worlds.Vessel) Verdict) → asking (world w) (suc i) want ≡ sailed (world w) (suc i) (want (call_sign v) (vessel_of v))
   asked_is want =
       let vs : List Vessel = vec_items w.vessels in
       let n : call_sign v ≡ suc i = sign_at 1 i vs v l e w.numbers ∙ omega arith in
@@ -94,37 +94,48 @@ module _ (w : Waters) (i : ℕ) (v : Vessel) (l : i < length (vec_items w.vessel
       ∙ ap (λ (y : worlds.Vessel). sailed (world w) (suc i) (want (suc i) y)) (boat_at vs i v l e)
       ∙ ap (λ (c : ℕ). sailed (world w) (suc i) (want c (vessel_of v))) (sym n)
 
+  -- the world with another boat there, and these notices
+  abbrev pub with_boat : Vessel → List Message → World
+  with_boat u ms = record { count = length (set (vec_items w.vessels) i u); boat = vessel_at (set (vec_items w.vessels) i u); harbour = port_of w.port; words = map sent (vec_items w.words); notices = map letter ms }
+
+  -- the world after that, where it is done
+  pub sailed_is : (want : ℕ → worlds.Vessel → Result (List Letter × worlds.Vessel) Verdict) (u : Vessel) (ls : List Letter) (ms : List Message) → map letter ms ≡ map letter (vec_items w.notices) ++ ls → want (call_sign v) (vessel_of v) ≡ Ok (ls, vessel_of u) → asking (world w) (suc i) want ≡ Ok (with_boat u ms)
+  sailed_is want u ls ms s d =
+      let vs : List Vessel = vec_items w.vessels in
+      let F : (n : ℕ) → (ℕ → worlds.Vessel) → List Letter → Result World Verdict = λ n g ns. Ok (record { count = n; boat = g; harbour = port_of w.port; words = map sent (vec_items w.words); notices = ns }) in
+      asked_is want
+      ∙ ap (sailed (world w) (suc i)) d
+      ∙ ap (λ (n : ℕ). F n (put_at (suc i) (vessel_of u) (vessel_at vs)) (map letter (vec_items w.notices) ++ ls)) (sym (length-set vs i u))
+      ∙ ap (λ g. F (length (set vs i u)) g (map letter (vec_items w.notices) ++ ls)) (sym (boats_put vs i u l))
+      ∙ ap (F (length (set vs i u)) (vessel_at (set vs i u))) (sym s)
+
   -- where it is not done, all is as it was
-  turned_is : (want : ℕ → worlds.Vessel → Result (List Letter × worlds.Vessel) Verdict) (d : Verdict) → Refuses (want (call_sign v) (vessel_of v)) d → Refuses (asking (world w) (suc i) want) d
+  pub turned_is : (want : ℕ → worlds.Vessel → Result (List Letter × worlds.Vessel) Verdict) (d : Verdict) → Refuses (want (call_sign v) (vessel_of v)) d → Refuses (asking (world w) (suc i) want) d
   turned_is want (Number n) d = asked_is want ∙ ap (sailed (world w) (suc i)) d
   turned_is want Bad d = asked_is want ∙ ap (sailed (world w) (suc i)) d
   turned_is want Memory d = tt
 
-  module _ (act : Vessel → Result (Option Message) Unheard → Vessel → Type 0) (b : ℕ) (u : Vessel) (ms : List Message) (p : suc i ≡ b) where
-    abbrev now : World
-    now = record { count = length (set (vec_items w.vessels) i u); boat = vessel_at (set (vec_items w.vessels) i u); harbour = port_of w.port; words = map sent (vec_items w.words); notices = map letter ms }
+  pub kept_is : (u : Vessel) (ms : List Message) → vessel_of u ≡ vessel_of v → ms ≡ vec_items w.notices → with_boat u ms ≡ world w
+  kept_is u ms s m =
+      let vs : List Vessel = vec_items w.vessels in
+      let F : ℕ → (ℕ → worlds.Vessel) → List Letter → World = λ n g ns. record { count = n; boat = g; harbour = port_of w.port; words = map sent (vec_items w.words); notices = ns } in
+      ap (λ (n : ℕ). F n (vessel_at (set vs i u)) (map letter ms)) (length-set vs i u)
+      ∙ ap (λ g. F (length vs) g (map letter ms)) (boats_same vs i v u l e s)
+      ∙ ap (λ ns. F (length vs) (vessel_at vs) ns) (ap (map letter) m)
 
+  module _ (act : Vessel → Result (Option Message) Unheard → Vessel → Type 0) (b : ℕ) (u : Vessel) (ms : List Message) (p : suc i ≡ b) where
     -- it is done
-    pub performed : (a : Option Message) → act v (Ok a) u → map letter ms ≡ map letter (vec_items w.notices) ++ option letter a → Obeys act b (Ok tt) (world w) now
-    performed a t s = subst (λ (c : ℕ). Obeys act c (Ok tt) (world w) now) p go
+    pub performed : (a : Option Message) → act v (Ok a) u → map letter ms ≡ map letter (vec_items w.notices) ++ option letter a → Obeys act b (Ok tt) (world w) (with_boat u ms)
+    performed a t s = subst (λ (c : ℕ). Obeys act c (Ok tt) (world w) (with_boat u ms)) p go
       where
-        go : Obeys act (suc i) (Ok tt) (world w) now
-        go want h =
-            let vs : List Vessel = vec_items w.vessels in
-            let F : ℕ → (ℕ → worlds.Vessel) → List Letter → Result World Verdict = λ n g ns. Ok (record { count = n; boat = g; harbour = port_of w.port; words = map sent (vec_items w.words); notices = ns }) in
-            asked_is want
-            ∙ ap (sailed (world w) (suc i)) (h v (Ok a) u t)
-            ∙ ap (λ (n : ℕ). F n (put_at (suc i) (vessel_of u) (vessel_at vs)) (map letter (vec_items w.notices) ++ option letter a)) (sym (length-set vs i u))
-            ∙ ap (λ g. F (length (set vs i u)) g (map letter (vec_items w.notices) ++ option letter a)) (sym (boats_put vs i u l))
-            ∙ ap (F (length (set vs i u)) (vessel_at (set vs i u))) (sym s)
+        go : Obeys act (suc i) (Ok tt) (world w) (with_boat u ms)
+        go want h = sailed_is want u (option letter a) ms s (h v (Ok a) u t)
 
     -- it is refused
-    pub declined : (d : Unheard) → act v (Err d) u → ms ≡ vec_items w.notices → Obeys act b (Err d) (world w) now
-    declined d t m = subst (λ (c : ℕ). Obeys act c (Err d) (world w) now) p go
+    pub declined : (d : Unheard) → act v (Err d) u → ms ≡ vec_items w.notices → Obeys act b (Err d) (world w) (with_boat u ms)
+    declined d t m = subst (λ (c : ℕ). Obeys act c (Err d) (world w) (with_boat u ms)) p go
       where
-        go : Obeys act (suc i) (Err d) (world w) now
+        go : Obeys act (suc i) (Err d) (world w) (with_boat u ms)
         go want h =
-            let vs : List Vessel = vec_items w.vessels in
             let k : Refuses (want (call_sign v) (vessel_of v)) (turned d) × (vessel_of u ≡ vessel_of v) = h v (Err d) u t in
-            let F : ℕ → (ℕ → worlds.Vessel) → List Letter → World = λ n g ns. record { count = n; boat = g; harbour = port_of w.port; words = map sent (vec_items w.words); notices = ns } in
-            (turned_is want (turned d) k.0, ap (λ (n : ℕ). F n (vessel_at (set vs i u)) (map letter ms)) (length-set vs i u) ∙ ap (λ g. F (length vs) g (map letter ms)) (boats_same vs i v u l e k.1) ∙ ap (λ ns. F (length vs) (vessel_at vs) ns) (ap (map letter) m))
+            (turned_is want (turned d) k.0, kept_is u ms k.1 m)

@@ -10,6 +10,7 @@ use levels::refusals::Refusal;
 
 impl Ledger {
     // The highest floor that was heard of a boat, if it is on the list.
+    #[tactic(auto, using(crate::proofs::Maps::floor_found))]
     pub fn floor_of(&self, boat: BoatId) -> Option<Program>
         ensures { floor_in result ≡ floor_of boat.0 (book self.now).list }
     {

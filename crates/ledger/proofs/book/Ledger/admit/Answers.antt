@@ -2,9 +2,9 @@ use Rattle.std.proofs.Common.{◌≡◌, leb, true, false, List, map, length, is
 use Rattle.std.proofs.lemmas.Bool.{le-leb, lt-leb}
 use Rattle.std.proofs.lemmas.List.{length-map}
 use Rattle.levels.specs.Verdicts.{Verdict}
-use Rattle.ledger.specs.Entries.{Entry, floor_of}
-use Rattle.ledger.specs.Ledgers.{Book, entries, entry_of}
-use Rattle.ledger.proofs.Maps.{there, not_there, entered_in}
+use Rattle.ledger.specs.Entries.{Entry, floor_of, entry_of}
+use Rattle.ledger.specs.Ledgers.{Book, entries}
+use Rattle.ledger.proofs.Maps.{there, not_there, entered_in, ordered_ascends}
 use Rattle.ledger.proofs.book.Ledger.admit.Goals as goal
 
 pub returns-then-contains_key : goal.returns-then-contains_key
@@ -26,3 +26,7 @@ returns c =
     let m : leb 4096 (length (entries c.args.self.now)) ≡ false = lt-leb _ _ (omega (arith, l)) in
     let F : List Entry → Result Book Verdict = λ es. Ok (record { list = es; said = c.args.self.now.said.0 }) in
     simp (n, m) (ap F (sym (ap (map entry_of) c.in_ok-insert.ensures.entries ∙ entered_in c.args.boat c.args.self.now.floors.entries n)))
+
+pub invariant_of-self-clause-sorted : goal.invariant_of-self-clause-sorted
+invariant_of-self-clause-sorted c =
+    ordered_ascends c.insert.new.self c.insert.ensures.ordered

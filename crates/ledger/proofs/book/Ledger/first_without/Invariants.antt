@@ -1,6 +1,6 @@
 use Rattle.std.proofs.Common.{◌≡◌, map, None}
-use Rattle.ledger.specs.Entries.{lacking}
-use Rattle.ledger.specs.Ledgers.{entries, entry_of}
+use Rattle.ledger.specs.Entries.{lacking, entry_of}
+use Rattle.ledger.specs.Ledgers.{entries}
 use Rattle.ledger.proofs.book.Ledger.first_without.Given as goal
 
 abbrev pub invariant-boats : goal.invariant-boats

@@ -1,5 +1,5 @@
+use Rattle.ledger.specs.Entries.{entry_of}
 use Rattle.std.proofs.Common.{◌≡◌, ◌+◌, ◌*◌, ◌≤◌, ◌++◌, map, length, vec_items}
-use Rattle.ledger.specs.Ledgers.{entry_of}
 use Rattle.fleet.specs.Fleets.{world}
 use Rattle.world.specs.Rising.{vouching}
 use Rattle.rehearsal.proofs.rehearsal.Rehearsal.vouch_each.Given as goal
