@@ -1,4 +1,6 @@
 mod Ships
 mod Puts
-mod Falls
+pub mod Falls
+mod Covers
+mod Noted
 pub mod Taking

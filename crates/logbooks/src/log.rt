@@ -1,28 +1,32 @@
 // All the words that a boat keeps.
-ghost use Rattle.std.specs.Prelude.{◌≡◌, ◌≤◌};
+ghost use Rattle.std.specs.Prelude.{◌≡◌, ◌≤◌, true};
 ghost use Rattle.std.specs.BTreeMap.{keys, values, btree_map_len};
-ghost use Rattle.logbooks.specs.Ships.{numbers_of};
+ghost use Rattle.logbooks.specs.Ships.{slots_of, numbers_of, rising, covers};
 
 use crate::slot::Slot;
 use levels::numbers::BoatId;
 use std::alloc::Global;
-use std::collections::BTreeMap;
+use std::collections::{BTreeMap, BTreeSet};
 
 mod ships;
 mod takes;
 
-// One ship: its slot, and the last number that was taken from each boat about it.
+// One ship: its slot, the last number that was taken about it from the boat that the slot is from, and from each other boat. Most ships are spoken of by one boat, so the others' map is mostly empty.
 #[derive(Drop)]
 pub struct Ship {
     pub slot: Slot,
-    lasts: BTreeMap<BoatId, u32>,
+    last: u32,
+    others: BTreeMap<BoatId, u32>,
 }
 
-// The ships by their numbers, at most 4,096.
+// The ships by their numbers, at most 4,096. Each is in a box of its own, since the nodes of a map are half empty. A ship of which a newer form is known is among `newer`, so that a fall need not look at the others.
 #[derive(Drop)]
 pub struct Logbook {
     heap: Global,
-    ships: BTreeMap<u32, Ship>,
+    ships: BTreeMap<u32, Box<Ship>>,
+    newer: BTreeSet<u32>,
     ghost keyed: { numbers_of (values ships) ≡ keys ships },
+    ghost sorted: { rising (slots_of (values ships)) ≡ true },
+    ghost noted: { covers newer.keys (values ships) ≡ true },
     ghost few: { btree_map_len ships ≤ 4096 },
 }

@@ -1,10 +1,13 @@
 // What a boat does with the words that it keeps.
-ghost use Rattle.std.specs.Prelude.{◌≡◌, ◌≤◌, length};
-ghost use Rattle.std.specs.Map.Iter.{ShowsInOrder, deref};
+ghost use Rattle.std.specs.Prelude.{◌≡◌, ◌≤◌, true, false, length};
+ghost use Rattle.std.specs.Global.{Box};
+ghost use Rattle.std.specs.Map.Iter.{ShowsInOrder, ShowsInReverse, deref};
+ghost use Rattle.logbooks.specs.declared.log.Ship.{Ship};
 ghost use Rattle.forms.specs.Said.{said};
 ghost use Rattle.levels.specs.Verdicts.{Tries};
-ghost use Rattle.logbooks.specs.Logs.{log, empty, kept_all, putting, taking, restoring, fallen};
-ghost use Rattle.logbooks.specs.Ships.{slots_of};
+ghost use Rattle.logbooks.specs.Logs.{log, empty, kept_all, crowded, putting, taking, restoring, fallen};
+ghost use Rattle.std.specs.BTreeMap.{values, keys};
+ghost use Rattle.logbooks.specs.Ships.{slots_of, numbers_of, bare_all, covered, covers};
 ghost use Rattle.logbooks.specs.Slots.{kept};
 
 use super::{Logbook, Ship};
@@ -13,11 +16,24 @@ use forms::word::Spoken;
 use levels::numbers::{BoatId, FormNumber};
 use levels::refusals::Refusal;
 use std::alloc::Global;
-use std::collections::BTreeMap;
 use std::collections::btree_map::Values;
+use std::collections::{BTreeMap, BTreeSet};
 
 // How many ships there is place for.
 const MOST: usize = 4096;
+
+// The newer forms are forgotten, all of which are of ships with the given numbers.
+fn forget(ships: &mut BTreeMap<u32, Box<Ship>>, numbers: &BTreeSet<u32>)
+    requires keyed { numbers_of (values ships.old) ≡ keys ships.old }
+    requires noted { covers numbers.now.keys (values ships.old) ≡ true }
+    ensures { ships.new.entries ≡ bare_all ships.old.entries }
+{
+    for number in numbers {
+        if let Some(ship) = ships.get_mut(number) {
+            ship.slot.newer = None;
+        }
+    }
+}
 
 impl Logbook {
     // Nothing is kept yet.
@@ -27,6 +43,7 @@ impl Logbook {
         Logbook {
             heap,
             ships: BTreeMap::new(heap),
+            newer: BTreeSet::new(heap),
         }
     }
 
@@ -38,29 +55,42 @@ impl Logbook {
     }
 
     // The ships, by rising numbers.
-    pub fn ships(&self) -> Values<'_, u32, Ship>
+    pub fn ships(&self) -> Values<'_, u32, Box<Ship>>
         ensures slots { kept_all (slots_of result) ≡ (log self.now).slots }
         ensures few { length result ≤ 4096 }
-        ensures runs { ShowsInOrder (deref {X = Ship}) }
+        ensures runs { ShowsInOrder (deref {X = Box Ship}) }
+        ensures runs_back { ShowsInReverse (deref {X = Box Ship}) }
     {
         self.ships.values()
+    }
+
+    // A slot is written, and a last number noted, of a ship for which there is place, and that is among `newer` if it has to be.
+    fn enter(&mut self, slot: Slot, last: u32) -> Result<(), Refusal>
+        requires room { crowded (log self.old) slot.ship ≡ false }
+        requires noted { covered self.old.newer.keys slot ≡ true }
+        ensures { Tries (putting (log self.old) (kept slot) last) result (log self.old) (log self.new) }
+    {
+        match self.ships.get_mut(&slot.ship) {
+            Some(ship) => ship.note(slot, last),
+            None => {
+                let ship = Box::new(self.heap, Ship::new(self.heap, slot, last))?;
+                self.ships.insert(slot.ship, ship)?;
+                Ok(())
+            }
+        }
     }
 
     // A slot is written, and a last number noted. There is place for so many ships.
     fn put(&mut self, slot: Slot, last: u32) -> Result<(), Refusal>
         ensures { Tries (putting (log self.old) (kept slot) last) result (log self.old) (log self.new) }
     {
-        match self.ships.get_mut(&slot.ship) {
-            Some(ship) => ship.note(slot, last),
-            None => {
-                if self.ships.len() >= MOST {
-                    return Err(Refusal::Full);
-                }
-                self.ships
-                    .insert(slot.ship, Ship::new(self.heap, slot, last)?)?;
-                Ok(())
-            }
+        if self.ships.len() >= MOST && !self.ships.contains_key(&slot.ship) {
+            return Err(Refusal::Full);
         }
+        if slot.newer.is_some() {
+            self.newer.insert(slot.ship)?;
+        }
+        self.enter(slot, last)
     }
 
     // Takes a word that came, and keeps it in a form of at most `most`. An older number is passed over; there is place for so many ships.
@@ -100,13 +130,11 @@ impl Logbook {
         self.put(slot, last)
     }
 
-    // The power goes: nothing newer than what is kept is known any more. By `retain`, whose contract says what becomes of each ship; that of a loop over `values_mut` does not.
+    // The power goes: nothing newer than what is kept is known any more.
     pub fn fall(&mut self)
         ensures { log self.new ≡ fallen (log self.old) }
     {
-        self.ships.retain(|_, ship| {
-            ship.slot.newer = None;
-            true
-        });
+        forget(&mut self.ships, &self.newer);
+        self.newer.clear();
     }
 }

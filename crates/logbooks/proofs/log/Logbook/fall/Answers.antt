@@ -1,10 +1,21 @@
-use Rattle.std.proofs.Common.{rules}
-use Rattle.std.proofs.lemmas.Map.Made.{map_same_pairs}
-use Rattle.logbooks.proofs.Falls.{bare, numbered_bare, log_bare}
+use Rattle.std.proofs.Common.{◌≡◌, ℕ, true, List, ap, ◌∙◌, arith}
+use Rattle.std.specs.Map.{values_of}
+use Rattle.logbooks.specs.Ships.{covers}
+use Rattle.logbooks.proofs.Falls.{numbered_bare, rises_bare, length_bare, log_bare}
+use Rattle.logbooks.proofs.Covers.{covers_bare}
 use Rattle.logbooks.proofs.log.Logbook.fall.Goals as goal
 
-pub invariant_of-self-clause-keyed : goal.invariant_of-self-clause-keyed
-invariant_of-self-clause-keyed c = numbered_bare c.args.self.now.ships c.retain.new.self (map_same_pairs _ bare _ (λ k v b w f' t. search rules) _ _ c.retain.ensures.filtered) c.args.self.now.keyed
+pub invariant_of-self : goal.invariant_of-self
+invariant_of-self c =
+    let m = c.args.self.now.ships in
+    let n = c.forget.new.ships in
+    let l = length_bare m n c.forget.ensures in
+    record {
+      keyed = numbered_bare m n c.forget.ensures c.args.self.now.keyed;
+      sorted = rises_bare m n c.forget.ensures c.args.self.now.sorted;
+      noted = ap (λ es. covers c.clear.new.self.keys (values_of es)) c.forget.ensures ∙ covers_bare c.clear.new.self.keys m.entries;
+      few = let f = c.args.self.now.few in omega arith;
+    }
 
 pub returns : goal.returns
-returns c = log_bare c.args.self.now.ships c.retain.new.self (map_same_pairs _ bare _ (λ k v b w f' t. search rules) _ _ c.retain.ensures.filtered)
+returns c = log_bare c.args.self.now.ships c.forget.new.ships c.forget.ensures

@@ -1,28 +1,48 @@
-use Rattle.std.proofs.Common.{◌≤◌, ◌<◌, sym, ap, arith}
-use Rattle.std.specs.BTreeMap.{btree_map_len}
+use Rattle.std.proofs.Common.{◌≡◌, false, not, ◌&&◌, leb, is_some, refl, sym, ap, ◌∙◌, arith}
+use Rattle.std.specs.BTreeMap.{get, values, btree_map_len}
+use Rattle.std.specs.Ordering.{nat_cmp}
+use Rattle.std.proofs.lemmas.Bool.{and_left, and_right, lt-leb}
+use Rattle.std.proofs.lemmas.Result.{err_from_is_err_and}
+use Rattle.logbooks.specs.Logs.{log, crowded}
 use Rattle.logbooks.specs.Slots.{kept}
-use Rattle.logbooks.proofs.Puts.{log_in, numbered_known, put_known, put_full, numbered_new, put_new}
+use Rattle.logbooks.proofs.Puts.{crowded_is, full_is, memory_due}
+use Rattle.logbooks.proofs.Covers.{covers_more}
+use Rattle.logbooks.proofs.Noted.{grown}
 use Rattle.logbooks.proofs.log.Logbook.put.Goals as goal
+use Rattle.logbooks.proofs.log.Logbook.put.Goals.{else-len-ge-MOST-via-then-len-ge-MOST+else-not-contains_key, else-len-ge-MOST-via-else-len-ge-MOST, then-is_some+in_ok-insert, else-is_some}
 
-pub invariant_of-self-clause-keyed : goal.invariant_of-self-clause-keyed
-invariant_of-self-clause-keyed c =
-    numbered_known c.args.self.now.ships (c.get_mut.follows.lender c.note.new.self) c.in-Some.ship.now c.note.new.self (kept c.args.slot) c.args.last c.args.self.now.keyed (sym c.in-Some.ensures.value) c.get_mut.ensures.ordered (c.get_mut.follows.holds c.note.new.self) c.note.result c.note.ensures
+pub returns-then-not-contains_key : goal.returns-then-not-contains_key
+returns-then-not-contains_key c = (full_is c.args.self.now.ships (kept c.args.slot) c.args.last c.args.self.now.keyed (sym c.contains_key.ensures ∙ c.if-not-contains_key.true) (omega arith), refl)
 
-pub returns-in-Some : goal.returns-in-Some
-returns-in-Some c =
-    put_known c.args.self.now.ships (c.get_mut.follows.lender c.note.new.self) c.in-Some.ship.now c.note.new.self (kept c.args.slot) c.args.last c.args.self.now.keyed (sym c.in-Some.ensures.value) c.get_mut.ensures.ordered (c.get_mut.follows.holds c.note.new.self) c.note.result c.note.ensures
+pub invariant_of-self : goal.invariant_of-self
+invariant_of-self c = record {
+  keyed = c.args.self.now.keyed;
+  sorted = c.args.self.now.sorted;
+  noted = covers_more c.args.self.now.newer.keys c.insert.new.self.keys (grown c.args.self.now.newer c.insert.new.self c.args.slot.ship c.insert.result c.insert.ensures.updates c.insert.ensures.err) (values c.args.self.now.ships) c.args.self.now.noted;
+  few = c.args.self.now.few;
+}
 
-pub returns-then-len-ge-MOST : goal.returns-then-len-ge-MOST
-returns-then-len-ge-MOST c =
-    let again = c.get_mut.follows.holds-at-none in
-    let l : 4096 ≤ btree_map_len c.get_mut.follows.lender-at-none = omega arith in
-    (put_full c.args.self.now.ships c.get_mut.follows.lender-at-none (kept c.args.slot) c.args.last again c.args.self.now.keyed (sym c.in-None.ensures.value) l, ap log_in again)
+pub returns-in_err-insert : goal.returns-in_err-insert
+returns-in_err-insert c =
+    let m = c.args.self.now.ships in
+    let s = c.args.slot.ship in
+    let room : not (is_some (get nat_cmp m s)) && leb 4096 (btree_map_len m) ≡ false = elim c.else-len-ge-MOST.branch [
+      | else-len-ge-MOST-via-then-len-ge-MOST+else-not-contains_key w ↦ and_left (not (is_some (get nat_cmp m s))) _ (ap not (sym w.contains_key.ensures ∙ w.if-not-contains_key.false))
+      | else-len-ge-MOST-via-else-len-ge-MOST w ↦ and_right (not (is_some (get nat_cmp m s))) _ (lt-leb 4096 (btree_map_len m) (omega arith))
+    ] in
+    let p = err_from_is_err_and c.from_residual.result c.from_residual.ensures.1 in
+    rw (p.1, p.2) (memory_due m (kept c.args.slot) c.args.last c.args.self.now.keyed room, refl)
 
-pub invariant_of-self-in-None-clause-keyed : goal.invariant_of-self-in-None-clause-keyed
-invariant_of-self-in-None-clause-keyed c =
-    numbered_new c.args.self.now.ships c.get_mut.follows.lender-at-none (kept c.args.slot) c.args.last c.get_mut.follows.holds-at-none c.args.self.now.keyed (sym c.in-None.ensures.value) c.insert.new.self c.in_ok-new-in-None.field-0 c.in_ok-new-in-None.ensures c.insert.result c.insert.ensures.entries c.insert.ensures.err
-
-pub returns-in_ok-insert-in-None : goal.returns-in_ok-insert-in-None
-returns-in_ok-insert-in-None c =
-    let l : btree_map_len c.get_mut.follows.lender-at-none < 4096 = omega arith in
-    put_new c.args.self.now.ships c.get_mut.follows.lender-at-none (kept c.args.slot) c.args.last c.get_mut.follows.holds-at-none c.args.self.now.keyed (sym c.in-None.ensures.value) c.insert.new.self c.in_ok-new-in-None.field-0 c.in_ok-new-in-None.ensures l c.in_ok-insert-in-None.ensures.entries c.in_ok-insert-in-None.ensures.updates
+pub enter-requires-clause-room : goal.enter-requires-clause-room
+enter-requires-clause-room c =
+    let m = c.args.self.now.ships in
+    let s = c.args.slot.ship in
+    let room : not (is_some (get nat_cmp m s)) && leb 4096 (btree_map_len m) ≡ false = elim c.else-len-ge-MOST.branch [
+      | else-len-ge-MOST-via-then-len-ge-MOST+else-not-contains_key w ↦ and_left (not (is_some (get nat_cmp m s))) _ (ap not (sym w.contains_key.ensures ∙ w.if-not-contains_key.false))
+      | else-len-ge-MOST-via-else-len-ge-MOST w ↦ and_right (not (is_some (get nat_cmp m s))) _ (lt-leb 4096 (btree_map_len m) (omega arith))
+    ] in
+    let same : log c.if-is_some.self ≡ log c.args.self.now = elim c.if-is_some.branch [
+      | then-is_some+in_ok-insert w ↦ ap log w.self-is
+      | else-is_some w ↦ ap log w.self-is
+    ] in
+    ap (λ x. crowded x s) same ∙ crowded_is m s c.args.self.now.keyed ∙ room
