@@ -14,7 +14,7 @@ use Rattle.levels.specs.Standings.{view, counting}
 use Rattle.forms.specs.Meaning.{Meaning, Uttered, form_of, put, get}
 use Rattle.logbooks.specs.Logs.{Log, log, empty, taking}
 use Rattle.forms.specs.declared.sent.Sent.{Sent}
-use Rattle.fleet.specs.declared.fleet.Vessel.{Vessel}
+use Rattle.fleet.specs.declared.fleet.Berth.{Berth}
 use Rattle.fleet.specs.declared.fleet.Fleet.{Fleet}
 use Rattle.world.specs.Worlds.{World, BoatState, Said, place_of, state_at, at, logged, talked, talking, kept_by, taken, hearing_word, no_word, bringing_word, spoken, word_of}
 use Rattle.fleet.specs.Fleets.{world, state, sent, all_sent}
@@ -34,16 +34,16 @@ due_kept w i want Bad d = ap (kept_by w i) d
 due_kept w i (Ok l) Memory d = refl
 due_kept w i (Err e) Memory d = d
 
-module _ (f : Fleet) (b : ℕ) (v : MutBor Vessel) (found : Lookup (vec_items f.boats) b (Ok v)) where
-  pub hear_at : (x : Said) → x.to ≡ b → hearing_word (world f) x ≡ cond (reads v.now.standing.program.0 (form_of x.spoken)) (kept_by (world f) (b - 1) (taking (log v.now.log) x.from x.number x.spoken (keep_form (view v.now.standing) (form_of x.spoken)))) (Err (Number 1))
+module _ (f : Fleet) (b : ℕ) (v : MutBor Berth) (found : Lookup (vec_items f.boats) b (Ok v)) where
+  pub hear_at : (x : Said) → x.to ≡ b → hearing_word (world f) x ≡ cond (reads v.now.vessel.standing.program.0 (form_of x.spoken)) (kept_by (world f) (b - 1) (taking (log v.now.log) x.from x.number x.spoken (keep_form (view v.now.vessel.standing) (form_of x.spoken)))) (Err (Number 1))
   hear_at x e =
       let w : World = world f in
-      let n = length-map (vec_items f.boats) (λ (y : Vessel). log y.log) in
+      let n = length-map (vec_items f.boats) (λ (y : Berth). log y.log) in
       let G : ℕ → BoatState → Result World Verdict = λ i s. cond (reads s.standing.program (form_of x.spoken)) (kept_by w i (taken w i s.standing x)) (Err (Number 1)) in
-      let T : Result Log Verdict → Result World Verdict = λ t. cond (reads v.now.standing.program.0 (form_of x.spoken)) (kept_by w (b - 1) t) (Err (Number 1)) in
-      ap (λ o. at o (λ i. G i (state_at w i))) (ap (place_of w) e ∙ there f b v found) ∙ ap (G (b - 1)) (state_is f b v found) ∙ ap T (cond-true _ _ _ (lt-ltb (b - 1) (length w.logs) (omega (arith, n, within f b v found))) ∙ ap (λ l. taking l x.from x.number x.spoken (keep_form (view v.now.standing) (form_of x.spoken))) (log_is f b v found))
+      let T : Result Log Verdict → Result World Verdict = λ t. cond (reads v.now.vessel.standing.program.0 (form_of x.spoken)) (kept_by w (b - 1) t) (Err (Number 1)) in
+      ap (λ o. at o (λ i. G i (state_at w i))) (ap (place_of w) e ∙ there f b v found) ∙ ap (G (b - 1)) (state_is f b v found) ∙ ap T (cond-true _ _ _ (lt-ltb (b - 1) (length w.logs) (omega (arith, n, within f b v found))) ∙ ap (λ l. taking l x.from x.number x.spoken (keep_form (view v.now.vessel.standing) (form_of x.spoken))) (log_is f b v found))
 
-  pub take_tries : (x : Vessel) (want : Result Log Verdict) (r : Result (Unit {0}) Refusal) → state x ≡ state v.now → Tries want r (log v.now.log) (log x.log) → Tries (kept_by (world f) (b - 1) want) r (world f) (world (record f { boats = with_item f.boats (b - 1) x }))
+  pub take_tries : (x : Berth) (want : Result Log Verdict) (r : Result (Unit {0}) Refusal) → state x.vessel ≡ state v.now.vessel → Tries want r (log v.now.log) (log x.log) → Tries (kept_by (world f) (b - 1) want) r (world f) (world (record f { boats = with_item f.boats (b - 1) x }))
   take_tries x want (Ok u) s t =
       let F : World → Result World Verdict = λ y. Ok y in
       ap (kept_by (world f) (b - 1)) t ∙ ap F (logged_is f b v found x (log x.log) s refl)
@@ -51,7 +51,7 @@ module _ (f : Fleet) (b : ℕ) (v : MutBor Vessel) (found : Lookup (vec_items f.
       (due_kept (world f) (b - 1) want (verdict n) t.0, sym (logged_is f b v found x (log x.log) s refl) ∙ ap (logged (world f) (b - 1)) (t.1 ∙ sym (log_is f b v found)) ∙ ap (λ l. record (world f) { logs = l }) (set-get_or (world f).logs (b - 1) empty))
 
   -- it says a word
-  pub say_at : (j : ℕ) (u : Uttered) → is_some (place_of (world f) j) ≡ true → eqb j b ≡ false → reads v.now.standing.program.0 (form_of u) ≡ true → leb 4294967296 (v.now.used + 1) ≡ false → talking (world f) b j u ≡ Ok (talked (world f) (b - 1) b j (state v.now) u)
+  pub say_at : (j : ℕ) (u : Uttered) → is_some (place_of (world f) j) ≡ true → eqb j b ≡ false → reads v.now.vessel.standing.program.0 (form_of u) ≡ true → leb 4294967296 (v.now.vessel.used + 1) ≡ false → talking (world f) b j u ≡ Ok (talked (world f) (b - 1) b j (state v.now.vessel) u)
   say_at j u t d a k =
       let w : World = world f in
       let G : ℕ → BoatState → Result World Verdict = λ p y. cond (is_some (place_of w j) && not (eqb j b)) (cond (reads y.standing.program (form_of u)) (cond (leb 4294967296 (y.used + 1)) (Err (Number 6)) (Ok (talked w p b j y u))) (Err (Number 1))) (Err Bad) in

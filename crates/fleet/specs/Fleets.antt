@@ -13,13 +13,14 @@ use Rattle.forms.specs.declared.sent.Sent.{Sent}
 use Rattle.world.specs.declared.messages.Notice.{Notice}
 use Rattle.world.specs.Worlds.{World, Said, BoatState, start, place_of, state_at, log_at, at, telling, opened}
 use Rattle.fleet.specs.declared.fleet.Vessel.{Vessel}
+use Rattle.fleet.specs.declared.fleet.Berth.{Berth}
 use Rattle.fleet.specs.declared.fleet.Fleet.{Fleet}
 
 abbrev pub state : Vessel → BoatState
 state v = record { standing = view v.standing; answered = v.answered; used = v.used }
 
-abbrev pub states : List Vessel → List BoatState
-states = map state
+abbrev pub states : List Berth → List BoatState
+states = map (λ b. state b.vessel)
 
 abbrev pub sent : Sent → Said
 sent x = record { from = x.from.0; to = x.to.0; number = x.number; given = meaning x.given; spoken = said x.spoken }
@@ -27,8 +28,8 @@ sent x = record { from = x.from.0; to = x.to.0; number = x.number; given = meani
 abbrev pub all_sent : List Sent → List Said
 all_sent = map sent
 
-abbrev pub all_logs : List Vessel → List Log
-all_logs = map (λ v. log v.log)
+abbrev pub all_logs : List Berth → List Log
+all_logs = map (λ b. log b.log)
 
 abbrev pub world : Fleet → World
 world f = record { boats = states (vec_items f.boats); logs = all_logs (vec_items f.boats); harbour = book f.harbour; words = all_sent (vec_items f.words); notices = vec_items f.notices }
@@ -39,9 +40,9 @@ Begins n (Ok f) = (nat_le 1 n && nat_le n 8 ≡ true) × (world f ≡ start n)
 Begins n (Err e) = cond (nat_le 1 n && nat_le n 8) (verdict e ≡ Memory) (verdict e ≡ Bad)
 
 -- what a look for the boat with the number b finds: nothing, or the boat at its place
-abbrev pub Found : World → ℕ → Option Vessel → Type 0
+abbrev pub Found : World → ℕ → Option Berth → Type 0
 Found w b None = place_of w b ≡ None
-Found w b (Some v) = (place_of w b ≡ Some (b - 1)) × (state_at w (b - 1) ≡ state v) × (log_at w (b - 1) ≡ log v.log)
+Found w b (Some v) = (place_of w b ≡ Some (b - 1)) × (state_at w (b - 1) ≡ state v.vessel) × (log_at w (b - 1) ≡ log v.log)
 
 -- what was told once a boat has told a floor, where that is above 1
 abbrev pub floor_told : List Notice → ℕ → ℕ → List Notice

@@ -9,14 +9,14 @@ use Rattle.std.specs.contracts.vec.Vec as vec
 use Rattle.std.specs.contracts.impls.GlobalAllocator.TheImpl.{ghosts}
 use Rattle.levels.specs.declared.refusals.Refusal.{Refusal}
 use Rattle.levels.specs.Verdicts.{Bad, verdict}
-use Rattle.fleet.specs.declared.fleet.Vessel.{Vessel}
-use Rattle.fleet.specs.contracts.fleet.Vessel as vessel
+use Rattle.fleet.specs.declared.fleet.Berth.{Berth}
+use Rattle.fleet.specs.contracts.fleet.Berth as berth
 
 -- a look for the one with the number b among boats: nothing makes no sense
-abbrev pub Lookup : List Vessel → ℕ → Result (MutBor Vessel) Refusal → Type 0
+abbrev pub Lookup : List Berth → ℕ → Result (MutBor Berth) Refusal → Type 0
 Lookup vs b (Ok v) = (1 ≤ b) × (b ≤ length vs) × (v.now ≡ slice_index_or vs (b - 1) v.now)
 Lookup vs b (Err e) = (nat_le 1 b && nat_le b (length vs) ≡ false) × (verdict e ≡ Bad)
 
 -- the one with the number b ends as it is left, and the others stay
-abbrev pub LendsBoat : MutBor (Vec Vessel Global) → ℕ → Result (MutBor Vessel) Refusal → Fml
-LendsBoat boats b r = LendsIfOk (vec.the_row vessel.the_row global.the_row ghosts) vessel.the_row boats r (with_item boats.now (b - 1)) boats.now
+abbrev pub LendsBoat : MutBor (Vec Berth Global) → ℕ → Result (MutBor Berth) Refusal → Fml
+LendsBoat boats b r = LendsIfOk (vec.the_row berth.the_row global.the_row ghosts) berth.the_row boats r (with_item boats.now (b - 1)) boats.now

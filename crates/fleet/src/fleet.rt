@@ -9,12 +9,18 @@ mod begins;
 mod reads;
 mod steps;
 
-// A boat: its standing, whether the harbour has answered its promise, which it forgets when its program ends, the numbers that it has used for its words, and what it keeps of those that it took. That an answer came hangs on no other field, so it is a flag. (A boat with a file, in `boats`, has the same and gives records to be synced.)
-#[derive(Drop)]
+// A boat: its standing, whether the harbour has answered its promise, which it forgets when its program ends, and the numbers that it has used for its words. That an answer came hangs on no other field, so it is a flag. (A boat with a file, in `boats`, has the same and gives records to be synced.)
+#[derive(Clone, Copy)]
 pub struct Vessel {
     pub standing: Standing,
     pub answered: bool,
     pub used: u32,
+}
+
+// A boat with what it keeps of the words that it took.
+#[derive(Drop)]
+pub struct Berth {
+    pub vessel: Vessel,
     pub log: Logbook,
 }
 
@@ -22,7 +28,7 @@ pub struct Vessel {
 #[derive(Drop)]
 pub struct Fleet {
     harbour: Ledger,
-    boats: Vec<Vessel>,
+    boats: Vec<Berth>,
     words: Vec<Sent>,
     notices: Vec<Notice>,
 }

@@ -1,7 +1,7 @@
 // A new fleet.
 ghost use Rattle.fleet.specs.Fleets.{Begins};
 
-use super::{Fleet, Vessel};
+use super::{Berth, Fleet, Vessel};
 use ledger::book::Ledger;
 use levels::refusals::Refusal;
 use levels::standing::Standing;
@@ -19,19 +19,22 @@ impl Fleet {
         if !(1..=MOST).contains(&boats) {
             return Err(Refusal::Invalid);
         }
-        let mut vessels = Vec::new(heap);
+        let mut berths = Vec::new(heap);
         // a loop whose number nobody needs, since each boat may find no memory
         for _ in 0..boats {
-            vessels.push(Vessel {
+            let vessel = Vessel {
                 standing: Standing::first(),
                 answered: false,
                 used: 0,
+            };
+            berths.push(Berth {
+                vessel,
                 log: Logbook::new(heap),
             })?;
         }
         Ok(Fleet {
             harbour: Ledger::new(heap),
-            boats: vessels,
+            boats: berths,
             words: Vec::new(heap),
             notices: Vec::new(heap),
         })

@@ -4,7 +4,7 @@ ghost use Rattle.std.specs.Option.{option_copied};
 ghost use Rattle.ledger.specs.Ledgers.{book};
 ghost use Rattle.fleet.specs.Fleets.{world, states, all_logs, all_sent, Found};
 
-use super::{Fleet, Vessel};
+use super::{Berth, Fleet};
 use forms::sent::Sent;
 use ledger::book::Ledger;
 use levels::numbers::BoatId;
@@ -12,7 +12,7 @@ use world::messages::Notice;
 
 impl Fleet {
     // The boats: boat number i is at place i - 1.
-    pub fn boats(&self) -> &[Vessel]
+    pub fn boats(&self) -> &[Berth]
         ensures states { states result.now ≡ (world self.now).boats }
         ensures logs { all_logs result.now ≡ (world self.now).logs }
     {
@@ -20,7 +20,7 @@ impl Fleet {
     }
 
     // The boat with a number, if there is one.
-    pub fn boat(&self, boat: BoatId) -> Option<&Vessel>
+    pub fn boat(&self, boat: BoatId) -> Option<&Berth>
         ensures { Found (world self.now) boat.0 (option_copied result) }
     {
         self.boats.get(boat.place()?)

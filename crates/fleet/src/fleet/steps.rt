@@ -11,7 +11,7 @@ ghost use Rattle.fleet.specs.Fleets.{world, floor_told, Makes, beginning};
 ghost use Rattle.fleet.specs.Lends.{Lookup, LendsBoat};
 ghost use Rattle.world.specs.Worlds as spec;
 
-use super::{Fleet, Vessel};
+use super::{Berth, Fleet};
 use forms::sent::Sent;
 use forms::word::Spoken;
 use levels::numbers::{BoatId, Level, Program, next_number};
@@ -33,17 +33,17 @@ fn tell_each(notices: &mut Vec<Notice>, boats: &BTreeMap<BoatId, Program>, level
 }
 
 // The boat with a number, to be changed.
-fn boat_mut(boats: &mut Vec<Vessel>, boat: BoatId) -> Result<&mut Vessel, Refusal>
+fn boat_mut(boats: &mut Vec<Berth>, boat: BoatId) -> Result<&mut Berth, Refusal>
     ensures* writes_back { sem 𝓛 (LendsBoat boats.entry boat.0 result) }
     ensures value { Lookup boats.old.items boat.0 result }
 {
     let Some(place) = boat.place() else {
         return Err(Refusal::Invalid);
     };
-    let Some(vessel) = boats.get_mut(place) else {
+    let Some(berth) = boats.get_mut(place) else {
         return Err(Refusal::Invalid);
     };
-    Ok(vessel)
+    Ok(berth)
 }
 
 // A boat tells its floor, where that is above 1.
@@ -66,12 +66,12 @@ impl Fleet {
         requires { F.IsAlwaysCallable change }
         ensures { (make : Boat → Result Boat Verdict) → Makes (F.post change) make → Tries (beginning (world self.old) boat.0 make) result (world self.old) (world self.new) }
     {
-        let vessel = boat_mut(&mut self.boats, boat)?;
-        let standing = change(vessel.standing)?;
+        let berth = boat_mut(&mut self.boats, boat)?;
+        let standing = change(berth.vessel.standing)?;
         tell_floor(&mut self.notices, boat, standing.floor)?;
-        vessel.standing = standing;
-        vessel.answered = false;
-        vessel.log.fall();
+        berth.vessel.standing = standing;
+        berth.vessel.answered = false;
+        berth.log.fall();
         Ok(())
     }
 
@@ -97,21 +97,21 @@ impl Fleet {
     fn promise(&mut self, boat: BoatId) -> Result<(), Refusal>
         ensures { Tries (spec.promising (world self.old) boat.0) result (world self.old) (world self.new) }
     {
-        let vessel = boat_mut(&mut self.boats, boat)?;
-        let before = vessel.standing;
+        let berth = boat_mut(&mut self.boats, boat)?;
+        let before = berth.vessel.standing;
         self.notices.push(Notice::Promised {
             from: boat,
             floor: before.program,
         })?;
-        vessel.answered &= before.program <= before.floor;
-        vessel.standing = before.promised();
+        berth.vessel.answered &= before.program <= before.floor;
+        berth.vessel.standing = before.promised();
         Ok(())
     }
 
     fn tick(&mut self, boat: BoatId) -> Result<(), Refusal>
         ensures { Tries (spec.ticking (world self.old) boat.0) result (world self.old) (world self.new) }
     {
-        let vessel = self.boat(boat).ok_or(Refusal::Invalid)?;
+        let vessel = self.boat(boat).ok_or(Refusal::Invalid)?.vessel;
         if vessel.answered {
             return Ok(());
         }
@@ -133,13 +133,13 @@ impl Fleet {
         if to == from || self.boat(to).is_none() {
             return Err(Refusal::Invalid);
         }
-        let vessel = boat_mut(&mut self.boats, from)?;
-        if !reads(vessel.standing.program, word.form()) {
+        let berth = boat_mut(&mut self.boats, from)?;
+        if !reads(berth.vessel.standing.program, word.form()) {
             return Err(Refusal::Malformed);
         }
-        let number = next_number(vessel.used)?;
+        let number = next_number(berth.vessel.used)?;
         let given = word.read();
-        let spoken = given.put(vessel.standing.say_form(to));
+        let spoken = given.put(berth.vessel.standing.say_form(to));
         self.words.push(Sent {
             from,
             to,
@@ -147,7 +147,7 @@ impl Fleet {
             given,
             spoken,
         })?;
-        vessel.used = number;
+        berth.vessel.used = number;
         Ok(())
     }
 
@@ -167,8 +167,8 @@ impl Fleet {
     fn assure(&mut self, to: BoatId, floor: Program) -> Result<(), Refusal>
         ensures { Does (spec.hearing_notice (world self.old) (Heard to floor)) result (world self.old) (world self.new) }
     {
-        let vessel = boat_mut(&mut self.boats, to)?;
-        vessel.answered |= vessel.standing.floor <= floor;
+        let berth = boat_mut(&mut self.boats, to)?;
+        berth.vessel.answered |= berth.vessel.standing.floor <= floor;
         Ok(())
     }
 
@@ -176,13 +176,13 @@ impl Fleet {
     fn learn(&mut self, to: BoatId, level: Level) -> Result<(), Refusal>
         ensures { Tries (spec.hearing_notice (world self.old) (Allowed to level)) result (world self.old) (world self.new) }
     {
-        let vessel = boat_mut(&mut self.boats, to)?;
-        let standing = vessel.standing.raised(level);
+        let berth = boat_mut(&mut self.boats, to)?;
+        let standing = berth.vessel.standing.raised(level);
         self.notices.push(Notice::Taken {
             from: to,
             level: standing.level,
         })?;
-        vessel.standing = standing;
+        berth.vessel.standing = standing;
         Ok(())
     }
 
@@ -212,13 +212,13 @@ impl Fleet {
         ensures { Tries (spec.bringing_word (world self.old) number) result (world self.old) (world self.new) }
     {
         let sent = self.words.get(number).copied().ok_or(Refusal::Invalid)?;
-        let vessel = boat_mut(&mut self.boats, sent.to)?;
+        let berth = boat_mut(&mut self.boats, sent.to)?;
         let form = sent.spoken.form();
-        if !reads(vessel.standing.program, form) {
+        if !reads(berth.vessel.standing.program, form) {
             return Err(Refusal::Malformed);
         }
-        let most = vessel.standing.keep_form(form);
-        vessel.log.take(sent.from, sent.number, sent.spoken, most)
+        let most = berth.vessel.standing.keep_form(form);
+        berth.log.take(sent.from, sent.number, sent.spoken, most)
     }
 
     fn announce(&mut self, level: Level) -> Result<(), Refusal>

@@ -48,7 +48,7 @@ impl Rehearsal {
     {
         self.fleet
             .boat(boat)
-            .map_or(Standing::first(), |vessel| vessel.standing)
+            .map_or(Standing::first(), |berth| berth.vessel.standing)
     }
 
     // Does a boat of the list run a program below a level?

@@ -9,9 +9,9 @@ pub returns : goal.returns
 returns c =
     let f = c.args.self.now in
     let b = c.args.to.0 in
-    let v = c.in_ok-vessel.vessel in
-    let h = c.in_ok-vessel.ensures.value in
+    let v = c.in_ok-berth.berth in
+    let h = c.in_ok-berth.ensures.value in
     let F : World → Result World Verdict = λ x. Ok x in
-    let S : Bool → BoatState = λ t. record (state v.now) { answered = v.now.answered || t } in
-    let e : c.le.result ≡ leb v.now.standing.floor.0 c.args.floor.0 = search rules in
-    rw (there f b v h, state_is f b v h) (ap F (moored_is f b v h (record v.now { answered = v.now.answered || c.le.result }) _ (ap S e) refl))
+    let S : Bool → BoatState = λ t. record (state v.now.vessel) { answered = v.now.vessel.answered || t } in
+    let e : c.le.result ≡ leb v.now.vessel.standing.floor.0 c.args.floor.0 = search rules in
+    rw (there f b v h, state_is f b v h) (ap F (moored_is f b v h (record v.now { vessel = record v.now.vessel { answered = v.now.vessel.answered || c.le.result } }) _ (ap S e) refl))

@@ -14,11 +14,11 @@ returns-then-not-reads c =
     let f = c.args.self.now in
     let x = c.in_ok-sent.sent in
     let b = x.to.0 in
-    let v = c.in_ok-vessel.vessel in
-    let h = c.in_ok-vessel.ensures.value in
+    let v = c.in_ok-berth.berth in
+    let h = c.in_ok-berth.ensures.value in
     let l : c.args.number < length (vec_items f.words) = search rules in
     let e : x ≡ get_or (vec_items f.words) c.args.number x = search rules in
-    let r : reads v.now.standing.program.0 (form_of (said x.spoken)) ≡ false = search rules in
+    let r : reads v.now.vessel.standing.program.0 (form_of (said x.spoken)) ≡ false = search rules in
     (bring_at f c.args.number x l e ∙ hear_at f b v h (sent x) refl ∙ cond-false _ _ _ r, sym (same_is f b v h))
 
 pub returns : goal.returns
@@ -26,10 +26,10 @@ returns c =
     let f = c.args.self.now in
     let x = c.in_ok-sent.sent in
     let b = x.to.0 in
-    let v = c.in_ok-vessel.vessel in
-    let h = c.in_ok-vessel.ensures.value in
+    let v = c.in_ok-berth.berth in
+    let h = c.in_ok-berth.ensures.value in
     let l : c.args.number < length (vec_items f.words) = search rules in
     let e : x ≡ get_or (vec_items f.words) c.args.number x = search rules in
-    let r : reads v.now.standing.program.0 (form_of (said x.spoken)) ≡ true = search rules in
-    let m : c.keep_form-most.result.0 ≡ keep_form (view v.now.standing) (form_of (said x.spoken)) = c.keep_form-most.ensures ∙ ap (keep_form (view v.now.standing)) c.form-form.ensures in
+    let r : reads v.now.vessel.standing.program.0 (form_of (said x.spoken)) ≡ true = search rules in
+    let m : c.keep_form-most.result.0 ≡ keep_form (view v.now.vessel.standing) (form_of (said x.spoken)) = c.keep_form-most.ensures ∙ ap (keep_form (view v.now.vessel.standing)) c.form-form.ensures in
     rw (bring_at f c.args.number x l e ∙ hear_at f b v h (sent x) refl ∙ cond-true _ _ _ r) (take_tries f b v h (record v.now { log = c.take.new.self }) _ c.take.result refl (rw m at c.take.ensures))

@@ -5,4 +5,4 @@ use Rattle.fleet.specs.Fleets.{states, all_logs}
 use Rattle.fleet.proofs.fleet.Fleet.new.Given as goal
 
 abbrev pub invariant-loop : goal.invariant-loop
-invariant-loop l = (states (vec_items l.vessels) ≡ replicate l.counter fresh) × (all_logs (vec_items l.vessels) ≡ replicate l.counter empty)
+invariant-loop l = (states (vec_items l.berths) ≡ replicate l.counter fresh) × (all_logs (vec_items l.berths) ≡ replicate l.counter empty)
