@@ -1,5 +1,5 @@
 // The script on standard input, a line at a time, as bytes.
-ghost use Rattle.std.specs.Prelude.{◌≡◌, ◌+◌, ◌<◌, ◌≤◌, length, IfOk, OnOk, vec_len, string_len};
+ghost use Rattle.std.specs.Prelude.{◌≡◌, ◌≢◌, ℕ, ◌+◌, ◌-◌, ◌<◌, ◌≤◌, length, drop, slice_index, IfOk, vec_len, string_len};
 
 use std::alloc::{AllocError, Global};
 use std::io;
@@ -30,28 +30,34 @@ impl Line {
         ensures { IfOk result (λ s. string_len s ≤ vec_len self.now.bytes) }
     {
         let mut text = String::new(heap);
-        for word in self
-            .bytes
-            .split(|b| *b == b' ')
-            .filter(|word| !word.is_empty())
-        {
+        let mut rest = self.bytes.as_slice();
+        while let Some(start) = rest.iter().position(|b| *b != b' ') {
             if !text.is_empty() {
                 text.push(' ')?;
             }
-            push_word(&mut text, word)?;
+            rest = push_word(&mut text, &rest[start..])?;
         }
         Ok(text)
     }
 }
 
-// Writes a word at the end of a text, byte by byte, each of which may find no memory.
-fn push_word(text: &mut String, word: &[u8]) -> Result<(), AllocError>
-    ensures { OnOk result (string_len text.new ≡ string_len text.old + length word.now) }
+// Writes a word at the end of a text, byte by byte, each of which may find no memory: the line up to its first space.
+// What is left of the line comes back.
+fn push_word<'a>(text: &mut String, line: &'a [u8]) -> Result<&'a [u8], AllocError>
+    ensures left { IfOk result (λ rest. rest.now ≡ drop (length line.now - length rest.now) line.now) }
+    ensures word { IfOk result (λ rest. (k : ℕ) → k + length rest.now < length line.now → slice_index line.now k ≢ 32) }
+    ensures ends { IfOk result (λ rest. 0 < length rest.now → slice_index rest.now 0 ≡ 32) }
+    ensures writes { IfOk result (λ rest. string_len text.new + length rest.now ≡ string_len text.old + length line.now) }
 {
-    for &byte in word {
+    let mut rest = line;
+    while let Some((&byte, behind)) = rest.split_first() {
+        if byte == b' ' {
+            break;
+        }
         text.push(printable(byte))?;
+        rest = behind;
     }
-    Ok(())
+    Ok(rest)
 }
 
 // A byte of a word as it is printed.

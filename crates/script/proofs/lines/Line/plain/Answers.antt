@@ -1,19 +1,21 @@
-use Rattle.std.proofs.Common.{rules, ap, arith, length, eqb, not}
-use Rattle.std.proofs.lemmas.Iterator.Splits.{YieldsList-from_slice_split}
-use Rattle.std.proofs.lemmas.Iterator.Consumers.{YieldsList-from_filter, YieldsList-end}
-use borrow.Author.Tests.{tests}
-use Rattle.script.proofs.Words.{spread, spread_push, spread-words_le}
+use Rattle.std.proofs.Common.{rules, arith, ℕ, List, ◌≡◌, ◌≢◌, ◌-◌, ◌<◌, ap, length, length-drop, drop, get_or, get_or-drop, add-zero, eq-zero-or-pos, inl, inr}
+use Rattle.std.proofs.lemmas.Grind.{common_steps}
+use Rattle.std.proofs.lemmas.List.{take_rest}
 use Rattle.script.proofs.lines.Line.plain.Goals as goal
-use Rattle.script.proofs.lines.Line.plain.Goals.{then-not-is_empty+in_ok-push, else-not-is_empty}
 
-pub loop-word-preserved : goal.loop-word-preserved
-loop-word-preserved c =
-    let more = spread_push c.loop-word.yielded c.in-Some.word in
-    let pushed = c.in_ok-push_word.ensures in
-    elim c.if-not-is_empty.branch [ then-not-is_empty+in_ok-push w ↦ search (rules, tests) | else-not-is_empty w ↦ search (rules, tests) ]
+-- what stands behind a word begins with a space and the word does not, so there is less of it than of both
+shorter : (all behind : List ℕ) (start : ℕ) → start < length all → get_or all start 0 ≢ 32 → behind ≡ drop (length (drop start all) - length behind) (drop start all) → (0 < length behind → get_or behind 0 0 ≡ 32) → length behind < length all
+shorter all behind start within begins left ends = elim (eq-zero-or-pos (length (drop start all) - length behind)) [
+  | inl none ↦
+      let same : behind ≡ drop start all = rw none at left in
+      let first : get_or behind 0 0 ≡ get_or all start 0 = rw (same, get_or-drop start all 0 0, add-zero) in
+      absurd (begins (rw (← first) (ends (omega (arith, ap length same, length-drop start all)))))
+  | inr more ↦ omega (arith, length-drop start all)
+]
 
-pub returns : goal.returns
-returns c =
-    let end = YieldsList-end (YieldsList-from_filter _ (λ w. not (eqb (length w) 0)) (YieldsList-from_slice_split _ (λ b. eqb b 32) c.args.self.now.bytes.items (cc) (cc) (cc) (λ x r q k. search (rules, tests))) c.filter-word-items.ensures.closure (λ x r q k. search (rules, tests))) c.loop-word.yielded _ c.loop-word.yielded_by _ _ c.in-None.is c.next.ensures.steps in
-    let most = spread-words_le (λ b. eqb b 32) (λ w. not (eqb (length w) 0)) c.args.self.now.bytes.items in
-    omega (arith, ap spread end.0, c.args.self.now.bytes.ok.0)
+pub loop-start-smaller : goal.loop-start-smaller
+loop-start-smaller c =
+    let all = c.loop-start.rest.now in
+    let start = c.in-Some.start in
+    let from = take_rest all start in
+    shorter all _ start (search rules) (grind (arith, common_steps)) (rw from at c.in_ok-rest.ensures.left) c.in_ok-rest.ensures.ends
