@@ -1,4 +1,6 @@
 // A rehearsal with what becomes of its messages.
+ghost use Rattle.std.specs.Prelude.{◌≤◌};
+
 use crate::answers::{Answer, Output, Reason, Refused};
 use fleet::fleet::Fleet;
 use levels::numbers::{BoatId, Level};
@@ -63,8 +65,8 @@ impl Player {
 
     // The standing of a boat, if there is one of that number.
     fn standing(&self, boat: BoatId) -> Option<Standing> {
-        let vessel = self.fleet().boat(boat)?;
-        Some(vessel.standing)
+        let berth = self.fleet().boat(boat)?;
+        Some(berth.vessel.standing)
     }
 
     // Plays an event.
@@ -150,10 +152,14 @@ impl Player {
         }
     }
 
-    // What a drawn step may speak of.
-    fn scene(&self) -> Scene {
+    // What a drawn step may speak of. There is always a boat.
+    fn scene(&self) -> Scene
+        ensures { 1 ≤ result.boats }
+    {
         Scene {
-            boats: u16::try_from(self.fleet().boats().len()).unwrap_or(u16::MAX),
+            boats: u16::try_from(self.fleet().boats().len())
+                .unwrap_or(u16::MAX)
+                .max(1),
             words: self.fleet().words().len() as u64,
             notices: self.fleet().notices().len() as u64,
         }
@@ -163,9 +169,7 @@ impl Player {
     pub(crate) fn draw(&mut self, seed: u64, count: u64, out: &mut Output) -> io::Result<()> {
         let mut draws = Draws::new(seed);
         for _ in 0..count {
-            let Some(step) = draws.step_if_any(self.scene()) else {
-                break;
-            };
+            let step = draws.step(self.scene());
             let echo = format!(in self.heap; "{step}")?;
             self.step(step, echo.as_str(), out)?;
         }

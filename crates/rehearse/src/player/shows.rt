@@ -16,13 +16,13 @@ impl Player {
 
     // A line for each ship of which the boat has taken a word.
     pub(super) fn show(&self, boat: BoatId, out: &mut Output) -> io::Result<()> {
-        let Some(vessel) = self.fleet().boat(boat) else {
+        let Some(berth) = self.fleet().boat(boat) else {
             return Ok(());
         };
-        for ship in vessel.log.ships() {
+        for ship in berth.log.ships() {
             let slot = &ship.slot;
             let line = Line {
-                shown: show(vessel.standing.program, slot.shown()),
+                shown: show(berth.vessel.standing.program, slot.shown()),
                 from: slot.from,
                 number: slot.number,
             };
