@@ -10,11 +10,12 @@ use Rattle.std.specs.Ordering.{nat_cmp}
 use Rattle.std.proofs.lemmas.List.{length-map}
 use Rattle.std.proofs.lemmas.Map.Made.{lookup-map_values, keys_of-map_values}
 use Rattle.logbooks.specs.declared.log.Ship.{Ship}
-use Rattle.logbooks.specs.Slots.{Kept, kept, forgotten}
-use Rattle.logbooks.specs.Ships.{numbers_of, slots_of, ship_above, rising, bare, bare_all, last_of}
+use Rattle.logbooks.specs.Slots.{Kept, kept, in_form, forgotten}
+use Rattle.logbooks.specs.Ships.{numbers_of, slots_of, in_forms, ship_above, rising, bare, bare_all, last_of}
 use Rattle.logbooks.specs.Logs.{Log, fallen}
 use Rattle.logbooks.proofs.Ships.{Numbered, slots_in}
 use Rattle.logbooks.proofs.Puts.{log_in}
+use Rattle.logbooks.proofs.Counts.{in_forgotten, table}
 
 numbers_bare : (es : List (ℕ × Box Ship)) → numbers_of (values_of (bare_all es)) ≡ numbers_of (values_of es)
 numbers_bare [] = refl
@@ -51,3 +52,8 @@ module _ (m n : BTreeMap ℕ (Box Ship)) (e : n.entries ≡ bare_all m.entries) 
       let F : List Kept → (ℕ → ℕ → Option ℕ) → Log = λ l f. record { slots = l; lasts = f } in
       let lasts : (log_in n).lasts ≡ (log_in m).lasts = fun_ext (λ b. fun_ext (λ s. rw e (ap (λ o. last_of o b) (lookup-map_values bare (is_at (nat_cmp s)) m.entries) ∙ last_bare (get nat_cmp m s) b))) in
       ap (λ l. F l (log_in n).lasts) (ap slots_in e ∙ slots_bare m.entries) ∙ ap (F (map forgotten (slots_in m.entries))) lasts
+
+  pub counted_fallen : (xs : List ℕ) → xs ≡ in_forms (values_of m.entries) → xs ≡ in_forms (values_of n.entries)
+  counted_fallen xs h =
+      let k : (i : ℕ) → in_form i (slots_in m.entries) ≡ in_form i (slots_in n.entries) = λ i. sym (ap (λ es. in_form i (slots_in es)) e ∙ ap (in_form i) (slots_bare m.entries) ∙ in_forgotten i (slots_in m.entries)) in
+      h ∙ ap table (fun_ext k)

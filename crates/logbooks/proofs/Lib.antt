@@ -4,3 +4,5 @@ pub mod Falls
 mod Covers
 mod Noted
 pub mod Taking
+mod Counts
+mod Known

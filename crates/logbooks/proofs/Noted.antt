@@ -1,12 +1,12 @@
 -- The ships with a newer form stay among those that are noted.
 -- Assumes nothing.
-use Rattle.std.proofs.Common.{◌≡◌, ℕ, Bool, true, false, not, cond, ◌&&◌, leb, List, is_some, Some, None, Ok, Err, OnOk, OnErr, Option, Result, refl, sym, ap, ◌∙◌}
+use Rattle.std.proofs.Common.{◌≡◌, ℕ, Bool, true, false, cond, List, is_some, Some, Ok, Err, OnOk, OnErr, Option, Result, refl, sym, ap, ◌∙◌}
 use Rattle.std.specs.BTreeMap.{BTreeMap, get, insert_entry, is_at, IsOrdered, WritesThrough, IsUnchanged}
 use Rattle.std.specs.BTreeSet.{BTreeSet, contains, Updates}
 use Rattle.std.specs.List.{list_any}
 use Rattle.std.specs.Global.{Box}
 use Rattle.std.specs.Ordering.{nat_cmp}
-use Rattle.std.specs.Map.{values_of, set_value}
+use Rattle.std.specs.Map.{values_of}
 use Rattle.levels.specs.declared.refusals.Refusal.{Refusal}
 use Rattle.levels.specs.Verdicts.{Verdict, Tries}
 use Rattle.logbooks.specs.declared.log.Ship.{Ship}
@@ -14,7 +14,10 @@ use Rattle.logbooks.specs.declared.slot.Slot.{Slot}
 use Rattle.logbooks.specs.Slots.{Kept, kept}
 use Rattle.logbooks.specs.Ships.{seen, covered, covers}
 use Rattle.logbooks.proofs.Ships.{set_is}
-use Rattle.logbooks.proofs.Covers.{covers_in, covered_same, covered_there}
+use Rattle.logbooks.proofs.Covers.{covers_in, covered_same, covered_there, covers_without}
+use Rattle.logbooks.proofs.Puts.{log_in}
+use Rattle.logbooks.specs.Logs.{Log}
+use Rattle.std.specs.Result.{is_err}
 
 -- a ship that is known, when what is kept of it is written, or was not for want of memory
 pub noted_known : (ns : List ℕ) (m n : BTreeMap ℕ (Box Ship)) (a : Slot) (v w : Box Ship) → get nat_cmp m a.ship ≡ Some v → IsOrdered nat_cmp m → WritesThrough nat_cmp (nat_cmp a.ship) m w n → covers ns (values_of m.entries) ≡ true → covered ns a ≡ true → (f : ℕ → Option ℕ) (r : Result (Unit {0}) Refusal) → Tries (Ok (kept a, f)) r (seen v.value) (seen w.value) → covers ns (values_of n.entries) ≡ true
@@ -41,3 +44,8 @@ grown s n k (Ok y) f g q h = f.0 q ∙ go (is_at (nat_cmp k) q) h
     go true e = refl
     go false e = e
 grown s n k (Err e) f g q h = ap (list_any (is_at (nat_cmp q))) g ∙ h
+
+-- a number that was not there and is put in, goes out again where the log stayed
+pub taken_back : (want : Result Log Verdict) (m n : BTreeMap ℕ (Box Ship)) (old new back : BTreeSet ℕ) (k : ℕ) (r : Result (Unit {0}) Refusal) → Tries want r (log_in m) (log_in n) → is_err r ≡ true → contains nat_cmp old k ≡ false → Updates nat_cmp new back k false → covers old.keys (values_of m.entries) ≡ true → covers new.keys (values_of n.entries) ≡ true → covers back.keys (values_of n.entries) ≡ true
+taken_back want m n old new back k (Ok u) t e absent out c d = cc
+taken_back want m n old new back k (Err x) t e absent out c d = covers_without k new.keys old.keys back.keys absent (λ q h. out.2 q h) (values_of m.entries) (values_of n.entries) (ap (λ (l : Log). l.slots) t.1) c d

@@ -2,8 +2,9 @@
 -- Assumes nothing.
 use Rattle.std.specs.Prelude.{ℕ, max, Bool, false, cond, not, ◌&&◌, List, [], ◌∷◌, map, length, is_some, Some, None, Ok, Err, Option, Result, ◌==◌, nat_le, nat_lt}
 use Rattle.std.specs.BTreeMap.{get, values}
+use Rattle.std.specs.List.{list_any}
 use Rattle.levels.specs.Verdicts.{Verdict, Number}
-use Rattle.forms.specs.Meaning.{Uttered, ship_of}
+use Rattle.forms.specs.Meaning.{Uttered, ship_of, form_of}
 use Rattle.logbooks.specs.declared.slot.Slot.{Slot}
 use Rattle.logbooks.specs.declared.log.Logbook.{Logbook}
 use Rattle.logbooks.specs.Slots.{Kept, kept, keeping, forgotten}
@@ -28,6 +29,10 @@ empty = record { slots = []; lasts = λ b s. None }
 abbrev pub slot_of : ℕ → List Kept → Option Kept
 slot_of n [] = None
 slot_of n (s ∷ ss) = cond (s.ship == n) (Some s) (slot_of n ss)
+
+-- a word is kept in form k
+abbrev pub keeps : Log → ℕ → Bool
+keeps x k = list_any (λ s. form_of s.word == k) x.slots
 
 -- a slot in its place; the one of the same ship goes
 abbrev pub placed : Kept → List Kept → List Kept

@@ -8,7 +8,7 @@ use Rattle.std.specs.Box.{with_value}
 use Rattle.std.specs.Ordering.{nat_cmp}
 use Rattle.logbooks.specs.declared.slot.Slot.{Slot}
 use Rattle.logbooks.specs.declared.log.Ship.{Ship}
-use Rattle.logbooks.specs.Slots.{Kept, kept}
+use Rattle.logbooks.specs.Slots.{Kept, kept, in_form}
 
 abbrev pub slots_of : List (Box Ship) → List Slot
 slots_of = map (λ s. s.value.slot)
@@ -33,6 +33,10 @@ covered ns s = not (is_some s.newer) || list_any (is_at (nat_cmp s.ship)) ns
 abbrev pub covers : List ℕ → List (Box Ship) → Bool
 covers ns [] = true
 covers ns (s ∷ ss) = covered ns s.value.slot && covers ns ss
+
+-- how many slots keep their word in form 0, which there is not, and in each form that there is
+abbrev pub in_forms : List (Box Ship) → List ℕ
+in_forms ss = map (λ k. in_form k (map kept (slots_of ss))) (0 ∷ 1 ∷ 2 ∷ 3 ∷ [])
 
 -- a ship of which nothing newer than what is kept is known
 abbrev pub bare : Box Ship → Box Ship

@@ -1,6 +1,6 @@
 -- One ship's place among the words that are kept.
 -- Assumes nothing.
-use Rattle.std.specs.Prelude.{ℕ, min, cond, Some, None, Option, nat_le}
+use Rattle.std.specs.Prelude.{ℕ, ◌+◌, min, cond, List, [], ◌∷◌, Some, None, Option, ◌==◌, nat_le}
 use Rattle.forms.specs.declared.word.Spoken.{Spoken}
 use Rattle.forms.specs.Meaning.{Uttered, form_of, ship_of, put, get}
 use Rattle.forms.specs.Said.{said}
@@ -20,6 +20,11 @@ said_in (Some u) = Some (said u)
 
 abbrev pub kept : Slot → Kept
 kept s = record { ship = s.ship; from = s.from.0; number = s.number; word = said s.word; newer = said_in s.newer }
+
+-- how many slots keep their word in form k
+abbrev pub in_form : ℕ → List Kept → ℕ
+in_form k [] = 0
+in_form k (s ∷ ss) = cond (form_of s.word == k) 1 0 + in_form k ss
 
 -- a word that came is kept in a form of at most k
 abbrev pub keeping : ℕ → ℕ → Uttered → ℕ → Kept

@@ -1,81 +1,28 @@
 // The table of the boats.
-use fleet::fleet::Fleet;
+use fleet::fleet::{Berth, Fleet};
 use forms::sent::Sent;
 use levels::numbers::{BoatId, FormNumber};
 use levels::programs::program3;
 use levels::rules::reads;
 use levels::standing::Standing;
-use logbooks::log::Logbook;
 use std::alloc::{AllocError, Global};
 use std::fmt;
 
-// The forms that any program writes, and form 0, which there is not.
-const FORMS: usize = program3::GREATEST_FORM as usize + 1;
-
-// Which forms are in use, by their numbers, and how many may be that are not known to be. One walk through all words serves for all forms.
-#[derive(Clone, Copy)]
-struct Used {
-    forms: [bool; FORMS],
-    left: u8,
+// Is a form on the air: was a word ever sent in it?
+fn on_air(words: &[Sent], form: FormNumber) -> bool {
+    words.iter().any(|word| word.spoken.form() == form)
 }
 
-impl Used {
-    // No form is known to be in use.
-    fn none() -> Used {
-        Used {
-            forms: [false; FORMS],
-            left: program3::GREATEST_FORM,
-        }
-    }
-
-    // A form is in use.
-    fn note(&mut self, form: FormNumber) {
-        if let Some(used) = self.forms.get_mut(usize::from(form.0))
-            && !*used
-        {
-            *used = true;
-            self.left = self.left.saturating_sub(1);
-        }
-    }
-
-    // The forms that are on the air: a word was sent in them.
-    fn note_sent(&mut self, words: &[Sent]) {
-        for word in words {
-            if self.left == 0 {
-                return;
-            }
-            self.note(word.spoken.form());
-        }
-    }
-
-    // The forms in which a boat keeps words.
-    fn note_kept(&mut self, log: &Logbook) {
-        for ship in log.ships() {
-            if self.left == 0 {
-                return;
-            }
-            self.note(ship.slot.word.form());
-        }
-    }
-
-    // Is a form in use?
-    fn has(self, form: FormNumber) -> bool {
-        self.forms
-            .get(usize::from(form.0))
-            .is_some_and(|used| *used)
-    }
+// Is there a boat that keeps a word in a form?
+fn in_a_file(boats: &[Berth], form: FormNumber) -> bool {
+    boats.iter().any(|berth| berth.log.keeps(form))
 }
 
 // The forms that are on the air or kept by some boat, of those that any program writes.
 fn forms_in_use(heap: Global, fleet: &Fleet) -> Result<Vec<FormNumber>, AllocError> {
-    let mut used = Used::none();
-    used.note_sent(fleet.words());
-    for berth in fleet.boats() {
-        used.note_kept(&berth.log);
-    }
     (1..=program3::GREATEST_FORM)
         .map(FormNumber)
-        .filter(|form| used.has(*form))
+        .filter(|form| on_air(fleet.words(), *form) || in_a_file(fleet.boats(), *form))
         .collect(heap)
 }
 

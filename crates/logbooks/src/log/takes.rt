@@ -5,12 +5,12 @@ ghost use Rattle.std.specs.Map.Iter.{ShowsInOrder, ShowsInReverse, deref};
 ghost use Rattle.logbooks.specs.declared.log.Ship.{Ship};
 ghost use Rattle.forms.specs.Said.{said};
 ghost use Rattle.levels.specs.Verdicts.{Tries};
-ghost use Rattle.logbooks.specs.Logs.{log, empty, kept_all, crowded, putting, taking, restoring, fallen};
+ghost use Rattle.logbooks.specs.Logs.{log, empty, kept_all, crowded, putting, taking, restoring, fallen, keeps};
 ghost use Rattle.std.specs.BTreeMap.{values, keys};
 ghost use Rattle.logbooks.specs.Ships.{slots_of, numbers_of, bare_all, covered, covers};
 ghost use Rattle.logbooks.specs.Slots.{kept};
 
-use super::{Logbook, Ship};
+use super::{FORMS, Logbook, Ship};
 use crate::slot::Slot;
 use forms::word::Spoken;
 use levels::numbers::{BoatId, FormNumber};
@@ -44,6 +44,7 @@ impl Logbook {
             heap,
             ships: BTreeMap::new(heap),
             newer: BTreeSet::new(heap),
+            in_form: [0; FORMS],
         }
     }
 
@@ -64,33 +65,52 @@ impl Logbook {
         self.ships.values()
     }
 
+    // Is a word kept in a form?
+    pub fn keeps(&self, form: FormNumber) -> bool
+        ensures { result ≡ keeps (log self.now) form.0 }
+    {
+        self.in_form
+            .get(usize::from(form.0))
+            .is_some_and(|slots| *slots > 0)
+    }
+
     // A slot is written, and a last number noted, of a ship for which there is place, and that is among `newer` if it has to be.
     fn enter(&mut self, slot: Slot, last: u32) -> Result<(), Refusal>
         requires room { crowded (log self.old) slot.ship ≡ false }
         requires noted { covered self.old.newer.keys slot ≡ true }
         ensures { Tries (putting (log self.old) (kept slot) last) result (log self.old) (log self.new) }
     {
+        let form = usize::from(slot.word.form().0);
         match self.ships.get_mut(&slot.ship) {
-            Some(ship) => ship.note(slot, last),
+            Some(ship) => {
+                let before = usize::from(ship.slot.word.form().0);
+                ship.note(slot, last)?;
+                self.in_form[before] -= 1;
+                self.in_form[form] += 1;
+                Ok(())
+            }
             None => {
                 let ship = Box::new(self.heap, Ship::new(self.heap, slot, last))?;
                 self.ships.insert(slot.ship, ship)?;
+                self.in_form[form] += 1;
                 Ok(())
             }
         }
     }
 
-    // A slot is written, and a last number noted. There is place for so many ships.
+    // A slot is written, and a last number noted. There is place for so many ships. A number that comes among `newer` for it goes again where there is no memory for the slot.
     fn put(&mut self, slot: Slot, last: u32) -> Result<(), Refusal>
         ensures { Tries (putting (log self.old) (kept slot) last) result (log self.old) (log self.new) }
     {
         if self.ships.len() >= MOST && !self.ships.contains_key(&slot.ship) {
             return Err(Refusal::Full);
         }
-        if slot.newer.is_some() {
-            self.newer.insert(slot.ship)?;
+        let added = slot.newer.is_some() && self.newer.insert(slot.ship)?;
+        let entered = self.enter(slot, last);
+        if added && entered.is_err() {
+            self.newer.remove(&slot.ship);
         }
-        self.enter(slot, last)
+        entered
     }
 
     // Takes a word that came, and keeps it in a form of at most `most`. An older number is passed over; there is place for so many ships.

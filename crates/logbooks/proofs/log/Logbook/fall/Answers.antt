@@ -1,8 +1,9 @@
-use Rattle.std.proofs.Common.{◌≡◌, ℕ, true, List, ap, ◌∙◌, arith}
+use Rattle.std.proofs.Common.{ap, ◌∙◌, arith}
 use Rattle.std.specs.Map.{values_of}
 use Rattle.logbooks.specs.Ships.{covers}
 use Rattle.logbooks.proofs.Falls.{numbered_bare, rises_bare, length_bare, log_bare}
 use Rattle.logbooks.proofs.Covers.{covers_bare}
+use Rattle.logbooks.proofs.Falls.{counted_fallen}
 use Rattle.logbooks.proofs.log.Logbook.fall.Goals as goal
 
 pub invariant_of-self : goal.invariant_of-self
@@ -14,6 +15,7 @@ invariant_of-self c =
       keyed = numbered_bare m n c.forget.ensures c.args.self.now.keyed;
       sorted = rises_bare m n c.forget.ensures c.args.self.now.sorted;
       noted = ap (λ es. covers c.clear.new.self.keys (values_of es)) c.forget.ensures ∙ covers_bare c.clear.new.self.keys m.entries;
+      counted = counted_fallen m n c.forget.ensures c.args.self.now.in_form c.args.self.now.counted;
       few = let f = c.args.self.now.few in omega arith;
     }
 

@@ -1,4 +1,4 @@
-use Rattle.std.proofs.Common.{◌≡◌, ℕ, eqb, true, false, cond, Some, Ok, Option, Result, ap, ◌∙◌, sym, arith}
+use Rattle.std.proofs.Common.{◌≡◌, ℕ, eqb, false, cond, Some, Ok, Option, Result, ap, ◌∙◌, sym, arith}
 use Rattle.std.specs.BTreeMap.{BTreeMap, get}
 use Rattle.std.specs.Ordering.{nat_cmp}
 use Rattle.std.proofs.lemmas.Bool.{cond-false}
@@ -7,7 +7,6 @@ use Rattle.levels.specs.Verdicts.{Verdict}
 use Rattle.levels.specs.declared.numbers.BoatId.{BoatId}
 use Rattle.logbooks.specs.declared.log.Ship.{Ship}
 use Rattle.logbooks.specs.Slots.{Kept, kept}
-use Rattle.logbooks.specs.Ships.{seen, noted_by}
 use Rattle.logbooks.proofs.Puts.{noted_is, renoted_is}
 use Rattle.logbooks.proofs.log.Ship.note.Goals as goal
 use Rattle.logbooks.proofs.log.Ship.note.Goals.{then-ne+in_ok-insert, else-ne}

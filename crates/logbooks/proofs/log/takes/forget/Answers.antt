@@ -1,12 +1,11 @@
-use Rattle.std.proofs.Common.{◌≡◌, ℕ, true, List, [], ◌∷◌, Some, None, refl, sym, ap, ◌∙◌}
+use Rattle.std.proofs.Common.{◌≡◌, ℕ, true, List, [], ◌∷◌, Some, None, sym, ap, ◌∙◌}
 use Rattle.std.specs.BTreeMap.{get, is_at}
 use Rattle.std.specs.Box.{with_value}
 use Rattle.std.specs.Global.{Box}
 use Rattle.std.specs.Map.{values_of, set_value}
 use Rattle.std.specs.Ordering.{nat_cmp}
 use Rattle.logbooks.specs.declared.log.Ship.{Ship}
-use Rattle.logbooks.specs.Ships.{covers, bare, bare_all}
-use Rattle.logbooks.proofs.Ships.{Numbered}
+use Rattle.logbooks.specs.Ships.{covers, bare_all}
 use Rattle.logbooks.proofs.Covers.{covers_left, covers_past, bare_set, bare_is, numbered_set}
 use Rattle.logbooks.proofs.log.takes.forget.Goals as goal
 
