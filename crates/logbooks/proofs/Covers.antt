@@ -99,31 +99,15 @@ covered_same ns s t e c =
     let F : Bool → ℕ → Bool = λ b i. not b || list_any (is_at (nat_cmp i)) ns in
     ap (F (is_some t.newer)) (sym (ap (λ (k : Kept). k.ship) e)) ∙ ap (λ b. F b s.ship) (sym n) ∙ c
 
--- a number that none of the ships of a first list stands under may go, where the ships are kept alike
-covered_without : (k : ℕ) (ns os bs : List ℕ) → list_any (is_at (nat_cmp k)) os ≡ false → ((q : ℕ) → is_at (nat_cmp k) q ≡ false → list_any (is_at (nat_cmp q)) bs ≡ list_any (is_at (nat_cmp q)) ns) → (s : Slot) → covered os s ≡ true → covered ns s ≡ true → covered bs s ≡ true
-covered_without k ns os bs absent f s c d = go (is_some s.newer) c d
-  where
-    other_than : (t : Bool) → is_at (nat_cmp k) s.ship ≡ t → list_any (is_at (nat_cmp s.ship)) os ≡ true → is_at (nat_cmp k) s.ship ≡ false
-    other_than false e h = e
-    other_than true e h =
-        let i : k ≡ s.ship = eqb-true k s.ship (sym (unsigned_tied k s.ship) ∙ e) in
-        let y : true ≡ false = sym h ∙ sym (ap (λ (n : ℕ). list_any (is_at (nat_cmp n)) os) i) ∙ absent in
-        cc
-
-    go : (t : Bool) → not t || list_any (is_at (nat_cmp s.ship)) os ≡ true → not t || list_any (is_at (nat_cmp s.ship)) ns ≡ true → not t || list_any (is_at (nat_cmp s.ship)) bs ≡ true
-    go true c d = f s.ship (other_than (is_at (nat_cmp k) s.ship) refl c) ∙ d
-    go false c d = refl
-
-pub covers_without : (k : ℕ) (ns os bs : List ℕ) → list_any (is_at (nat_cmp k)) os ≡ false → ((q : ℕ) → is_at (nat_cmp k) q ≡ false → list_any (is_at (nat_cmp q)) bs ≡ list_any (is_at (nat_cmp q)) ns) → (ss ts : List (Box Ship)) → kept_all (slots_of ts) ≡ kept_all (slots_of ss) → covers os ss ≡ true → covers ns ts ≡ true → covers bs ts ≡ true
-covers_without k ns os bs absent f [] [] e c d = refl
-covers_without k ns os bs absent f [] (t ∷ ts) e c d = cc
-covers_without k ns os bs absent f (s ∷ ss) [] e c d = refl
-covers_without k ns os bs absent f (s ∷ ss) (t ∷ ts) e c d =
-    let p : (covered os s.value.slot ≡ true) × (covers os ss ≡ true) = and_parts (covered os s.value.slot) (covers os ss) c in
-    let q : (covered ns t.value.slot ≡ true) × (covers ns ts ≡ true) = and_parts (covered ns t.value.slot) (covers ns ts) d in
+-- ships of which the same is kept
+pub covers_kept : (ns : List ℕ) (ss ts : List (Box Ship)) → kept_all (slots_of ts) ≡ kept_all (slots_of ss) → covers ns ss ≡ true → covers ns ts ≡ true
+covers_kept ns ss [] e c = refl
+covers_kept ns [] (t ∷ ts) e c = cc
+covers_kept ns (s ∷ ss) (t ∷ ts) e c =
+    let p : (covered ns s.value.slot ≡ true) × (covers ns ss ≡ true) = and_parts (covered ns s.value.slot) (covers ns ss) c in
     let h : kept s.value.slot ≡ kept t.value.slot = cc in
     let r : kept_all (slots_of ts) ≡ kept_all (slots_of ss) = cc in
-    and_from _ _ (covered_without k ns os bs absent f t.value.slot (covered_same os s.value.slot t.value.slot h p.0) q.0) (covers_without k ns os bs absent f ss ts r p.1 q.1)
+    and_from _ _ (covered_same ns s.value.slot t.value.slot h p.0) (covers_kept ns ss ts r p.1)
 
 pub covered_there : (ns : List ℕ) (test : ℕ → Bool) (es : List (ℕ × Box Ship)) (v : Box Ship) → lookup test es ≡ Some v → covers ns (values_of es) ≡ true → covered ns v.value.slot ≡ true
 covered_there ns test [] v f c = cc

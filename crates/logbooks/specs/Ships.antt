@@ -1,6 +1,6 @@
 -- What is kept of one ship.
 -- Assumes nothing.
-use Rattle.std.specs.Prelude.{ℕ, Bool, true, cond, not, ◌&&◌, ◌||◌, List, [], ◌∷◌, map, is_some, Some, None, Option, ◌==◌, nat_lt}
+use Rattle.std.specs.Prelude.{◌≡◌, ℕ, Bool, true, cond, not, ◌&&◌, ◌||◌, List, [], ◌∷◌, map, is_some, Some, None, Option, ◌==◌, nat_lt}
 use Rattle.std.specs.List.{list_any}
 use Rattle.std.specs.BTreeMap.{get, is_at}
 use Rattle.std.specs.Global.{Box}
@@ -25,6 +25,10 @@ ship_above n (s ∷ ss) = nat_lt n s.ship
 abbrev pub rising : List Slot → Bool
 rising [] = true
 rising (s ∷ ss) = ship_above s.ship ss && rising ss
+
+-- lists with the same numbers in them
+abbrev pub Alike : List ℕ → List ℕ → Type 0
+Alike ns ks = (n : ℕ) → list_any (is_at (nat_cmp n)) ks ≡ list_any (is_at (nat_cmp n)) ns
 
 -- a slot with a newer form is about one of the ships that are listed
 abbrev pub covered : List ℕ → Slot → Bool

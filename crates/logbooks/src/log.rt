@@ -12,7 +12,7 @@ use std::collections::{BTreeMap, BTreeSet};
 mod ships;
 mod takes;
 
-// The forms that any program writes, and form 0, which there is not.
+// How many forms any program writes, with form 0, which there is not.
 const FORMS: usize = program3::GREATEST_FORM as usize + 1;
 
 // One ship: its slot, the last number that was taken about it from the boat that the slot is from, and from each other boat. Most ships are spoken of by one boat, so the others' map is mostly empty.
@@ -23,7 +23,7 @@ pub struct Ship {
     others: BTreeMap<BoatId, u32>,
 }
 
-// The ships by their numbers, at most 4,096. Each is in a box of its own, since the nodes of a map are half empty. A ship of which a newer form is known is among `newer`, so that a fall need not look at the others. How many slots keep their word in each form is counted, by the form's number, so that no walk has to find the forms in use.
+// The ships by their numbers, at most 4,096. Each is in a box of its own, since the nodes of a map are half empty. A ship of which a newer form is known is among `newer`, so that a fall need not look at the others. How many slots keep their word in each form is counted, by the form's number, so that no walk over them has to tell whether there is one.
 #[derive(Drop)]
 pub struct Logbook {
     heap: Global,

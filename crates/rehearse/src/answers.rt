@@ -44,6 +44,16 @@ pub struct Refused {
     pub reason: Reason,
 }
 
+impl Refused {
+    // There was no memory for it.
+    pub(crate) fn no_memory() -> Refused {
+        Refused {
+            refusal: Refusal::NoMemory,
+            reason: Fault::Memory.into(),
+        }
+    }
+}
+
 // A reason that stands alone is that something makes no sense; the others come with their refusal.
 impl From<Reason> for Refused {
     fn from(reason: Reason) -> Refused {

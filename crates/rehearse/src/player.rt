@@ -76,6 +76,12 @@ impl Player {
             .map_err(|refusal| self.refused(event, refusal))
     }
 
+    // Plays that a word is said. What becomes of it will be noted, so there is memory for that first.
+    fn say(&mut self, event: Event) -> Result<(), Refused> {
+        self.words.reserve(1).map_err(|_| Refused::no_memory())?;
+        self.play(event)
+    }
+
     // What became of a message when it was sent, if it was.
     fn fate(&self, message: Message) -> Option<Fate> {
         let (fates, number) = match message {
@@ -117,33 +123,32 @@ impl Player {
     }
 
     // A fate more waits for the messages to be sent.
-    fn queue(&mut self, fate: Fate) -> io::Result<Answer> {
-        self.ahead.push_back(fate)?;
-        Ok(Answer::Done)
+    fn queue(&mut self, fate: Fate) -> Result<(), Refused> {
+        self.ahead.push_back(fate).map_err(|_| Refused::no_memory())
     }
 
     // Does what a step asks for, and answers. The script chose the step: a match on data.
-    fn act(&mut self, step: Step) -> io::Result<Answer> {
-        let event = match step {
-            Step::Renew { boat, to } => Event::Renew { boat, to },
-            Step::Back { boat, to } => Event::GoBack { boat, to },
-            Step::Promise { boat } => Event::Promise { boat },
-            Step::Tick { boat } => Event::Tick { boat },
-            Step::Announce { level } => Event::Announce { level },
-            Step::Cut { boat } => Event::Restart { boat },
-            Step::Say { from, to, word } => Event::Say { from, to, word },
-            Step::Show { boat } => return Ok(self.looked_at(boat).into()),
-            Step::Lose => return self.queue(Fate::Lost),
-            Step::Hold => return self.queue(Fate::Late),
-            Step::Come { message } => return Ok(self.come(message).into()),
-            Step::Raise { level } => return Ok(self.raise(level).into()),
+    fn act(&mut self, step: Step) -> Answer {
+        let played = match step {
+            Step::Renew { boat, to } => self.play(Event::Renew { boat, to }),
+            Step::Back { boat, to } => self.play(Event::GoBack { boat, to }),
+            Step::Promise { boat } => self.play(Event::Promise { boat }),
+            Step::Tick { boat } => self.play(Event::Tick { boat }),
+            Step::Announce { level } => self.play(Event::Announce { level }),
+            Step::Cut { boat } => self.play(Event::Restart { boat }),
+            Step::Say { from, to, word } => self.say(Event::Say { from, to, word }),
+            Step::Show { boat } => self.looked_at(boat),
+            Step::Lose => self.queue(Fate::Lost),
+            Step::Hold => self.queue(Fate::Late),
+            Step::Come { message } => self.come(message),
+            Step::Raise { level } => self.raise(level),
         };
-        Ok(self.play(event).into())
+        played.into()
     }
 
     // Plays a step, and prints its answer and the messages that it sends.
     pub(crate) fn step(&mut self, step: Step, echo: &str, out: &mut Output) -> io::Result<()> {
-        let answer = self.act(step)?;
+        let answer = self.act(step);
         writeln!(out, "{echo}: {answer}")?;
         match step {
             Step::Raise { .. } => self.show_brought(out),

@@ -2,7 +2,6 @@
 use crate::answers::{Answer, Output, Refused};
 use crate::player::Player;
 use crate::table::Table;
-use levels::refusals::Refusal;
 use script::command::{Command, parse};
 use script::faults::Fault;
 use script::lines::{Line, shortened};
@@ -41,11 +40,7 @@ impl Stage {
     // Makes the boats.
     fn begin(&mut self, boats: u16, echo: &str) -> io::Result<()> {
         let Ok(player) = Player::new(self.heap, boats) else {
-            let refused = Refused {
-                refusal: Refusal::NoMemory,
-                reason: Fault::Memory.into(),
-            };
-            return self.answer(echo, Answer::Refused(refused));
+            return self.answer(echo, Answer::Refused(Refused::no_memory()));
         };
         self.player = Some(player);
         self.answer(echo, Answer::Done)

@@ -5,11 +5,14 @@ use std::alloc::{AllocError, Global};
 use std::io;
 use std::io::{BufRead, BufReader, Read, Stdin};
 
-// How many bytes of a line are kept.
+// How many bytes of a line are kept. A line, its text and its first part ask for as much memory as the longest, so that each finds what the one before it gave back, even where memory has run out.
 const MOST_KEPT: usize = 4096;
 
 // How many characters of a line are printed.
 const MOST_SHOWN: usize = 60;
+
+// How many bytes these may be, with two dots behind them.
+const MOST_SHORTENED: usize = 242;
 
 // A line without its end, or the first part of one that was too long. Both are read alike, so a flag tells them apart.
 #[derive(Drop)]
@@ -29,7 +32,7 @@ impl Line {
     pub fn plain(&self, heap: Global) -> Result<String, AllocError>
         ensures { IfOk result (λ s. string_len s ≤ vec_len self.now.bytes) }
     {
-        let mut text = String::new(heap);
+        let mut text = String::with_capacity(heap, MOST_KEPT)?;
         let mut rest = self.bytes.as_slice();
         while let Some(start) = rest.iter().position(|b| *b != b' ') {
             if !text.is_empty() {
@@ -75,7 +78,8 @@ fn printable(byte: u8) -> char
 pub fn shortened(heap: Global, text: &str) -> Result<String, AllocError>
     ensures { IfOk result (λ s. string_len s ≤ 242) }
 {
-    let mut short: String = text.chars().take(MOST_SHOWN).collect(heap)?;
+    let mut short = String::with_capacity(heap, MOST_SHORTENED)?;
+    short.extend(text.chars().take(MOST_SHOWN))?;
     if short.len() < text.len() {
         short.push_str("..")?;
     }
@@ -84,7 +88,7 @@ pub fn shortened(heap: Global, text: &str) -> Result<String, AllocError>
 
 // The next line, unless the input has ended. A last line needs no end of its own.
 pub fn next_line(heap: Global, input: &mut BufReader<Stdin>) -> io::Result<Option<Line>> {
-    let mut bytes = Vec::new(heap);
+    let mut bytes = Vec::with_capacity(heap, MOST_KEPT + 1)?;
     let most = MOST_KEPT as u64 + 1;
     if input.by_ref().take(most).read_until(b'\n', &mut bytes)? == 0 {
         return Ok(None);

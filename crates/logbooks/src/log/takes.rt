@@ -1,5 +1,5 @@
 // What a boat does with the words that it keeps.
-ghost use Rattle.std.specs.Prelude.{◌≡◌, ◌≤◌, true, false, length};
+ghost use Rattle.std.specs.Prelude.{◌≡◌, ◌≤◌, true, false, length, OnErr};
 ghost use Rattle.std.specs.Global.{Box};
 ghost use Rattle.std.specs.Map.Iter.{ShowsInOrder, ShowsInReverse, deref};
 ghost use Rattle.logbooks.specs.declared.log.Ship.{Ship};
@@ -7,7 +7,7 @@ ghost use Rattle.forms.specs.Said.{said};
 ghost use Rattle.levels.specs.Verdicts.{Tries};
 ghost use Rattle.logbooks.specs.Logs.{log, empty, kept_all, crowded, putting, taking, restoring, fallen, keeps};
 ghost use Rattle.std.specs.BTreeMap.{values, keys};
-ghost use Rattle.logbooks.specs.Ships.{slots_of, numbers_of, bare_all, covered, covers};
+ghost use Rattle.logbooks.specs.Ships.{Alike, slots_of, numbers_of, bare_all, covered, covers};
 ghost use Rattle.logbooks.specs.Slots.{kept};
 
 use super::{FORMS, Logbook, Ship};
@@ -78,7 +78,8 @@ impl Logbook {
     fn enter(&mut self, slot: Slot, last: u32) -> Result<(), Refusal>
         requires room { crowded (log self.old) slot.ship ≡ false }
         requires noted { covered self.old.newer.keys slot ≡ true }
-        ensures { Tries (putting (log self.old) (kept slot) last) result (log self.old) (log self.new) }
+        ensures done { Tries (putting (log self.old) (kept slot) last) result (log self.old) (log self.new) }
+        ensures newer { self.new.newer ≡ self.old.newer }
     {
         let form = usize::from(slot.word.form().0);
         match self.ships.get_mut(&slot.ship) {
@@ -100,7 +101,8 @@ impl Logbook {
 
     // A slot is written, and a last number noted. There is place for so many ships. A number that comes among `newer` for it goes again where there is no memory for the slot.
     fn put(&mut self, slot: Slot, last: u32) -> Result<(), Refusal>
-        ensures { Tries (putting (log self.old) (kept slot) last) result (log self.old) (log self.new) }
+        ensures done { Tries (putting (log self.old) (kept slot) last) result (log self.old) (log self.new) }
+        ensures newer { OnErr result (Alike self.old.newer.keys self.new.newer.keys) }
     {
         if self.ships.len() >= MOST && !self.ships.contains_key(&slot.ship) {
             return Err(Refusal::Full);

@@ -1,10 +1,10 @@
-use Rattle.std.proofs.Common.{rules, arith, ◌≡◌, ◌≤◌, IfOk, string_len}
+use Rattle.std.proofs.Common.{rules, arith, ◌≡◌, ◌≤◌, OnOk, ◌++◌, ap, ◌∙◌, string_len}
 use Rattle.std.proofs.Math.ListN.{take}
 use Rattle.std.proofs.Math.Utf8.{encodes}
 use Rattle.std.specs.Str.{chars}
 use Rattle.std.specs.String.{string_bytes}
 use Rattle.std.proofs.lemmas.Iterator.{YieldsList-from_chars, YieldsList-from_take}
-use Rattle.std.proofs.lemmas.Iterator.Adapters.{fact_from_collect}
+use Rattle.std.proofs.lemmas.Iterator.Adapters.{items_from_extend}
 use Rattle.script.proofs.Lengths.{length-first_chars_le}
 use Rattle.script.proofs.lines.shortened.Goals as goal
 use Rattle.script.proofs.lines.shortened.Goals.{then-len-text+in_ok-push_str, else-len-text}
@@ -13,8 +13,8 @@ use Rattle.script.proofs.lines.shortened.Goals.{then-len-text+in_ok-push_str, el
 pub returns : goal.returns
 returns c =
     let text = c.args.text.now in
-    let collected : IfOk c.collect.result (λ s. string_bytes s ≡ encodes (take 60 (chars text))) = fact_from_collect _ c.collect.result c.collect.ensures.ran (YieldsList-from_take 60 (YieldsList-from_chars text c.utf8.text (cc)) (cc)) in
-    let short : string_bytes c.in_ok-short.short ≡ encodes (take 60 (chars text)) = rw c.in_ok-short.was at collected in
+    let extended : OnOk c.extend.result (string_bytes c.extend.new.self ≡ string_bytes c.in_ok-short.short ++ encodes (take 60 (chars text))) = items_from_extend {P = λ cs. string_bytes c.extend.new.self ≡ string_bytes c.in_ok-short.short ++ encodes cs} c.extend.result c.extend.ensures.ran (YieldsList-from_take 60 (YieldsList-from_chars text c.utf8.text (cc)) (cc)) in
+    let short : string_bytes c.extend.new.self ≡ encodes (take 60 (chars text)) = rw c.in_ok-extend.was at extended ∙ ap (λ bs. bs ++ encodes (take 60 (chars text))) c.in_ok-short.ensures.bytes in
     let most = length-first_chars_le 60 (chars text) _ short in
-    let len : string_len c.in_ok-short.short ≤ 240 = omega (arith, c.in_ok-short.short.bytes.ok.0) in
+    let len : string_len c.extend.new.self ≤ 240 = omega (arith, c.extend.new.self.bytes.ok.0) in
     elim c.if-len-text.branch [ then-len-text+in_ok-push_str w ↦ search rules | else-len-text w ↦ search rules ]

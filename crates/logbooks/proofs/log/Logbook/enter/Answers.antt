@@ -1,4 +1,4 @@
-use Rattle.std.proofs.Common.{◌≤◌, ◌-◌, ℕ, Option, slice_index_or, slice_set, sym, ap, ◌∙◌, arith}
+use Rattle.std.proofs.Common.{◌≤◌, ◌-◌, ℕ, Option, slice_index_or, slice_set, refl, sym, ap, ◌∙◌, arith}
 use Rattle.std.specs.BTreeMap.{BTreeMap, is_at, insert_entry}
 use Rattle.std.specs.Global.{Box}
 use Rattle.std.proofs.lemmas.Result.{err_from_is_err_and}
@@ -72,14 +72,14 @@ returns-in_err-note-in-Some c =
     let n = c.get_mut.follows.lender w in
     let t = put_known c.args.self.now.ships n c.in-Some.ship.now w (kept c.args.slot) c.args.last c.args.self.now.keyed (sym c.in-Some.ensures.value) c.get_mut.ensures.ordered (c.get_mut.follows.holds w) c.note.result (rw c.deref_mut.ensures.value at c.note.ensures) in
     let p = err_from_is_err_and c.from_residual.result c.from_residual.ensures.1 in
-    rw (p.1, p.2) (rw c.in_err-note-in-Some.was at t)
+    record { done = rw (p.1, p.2) (rw c.in_err-note-in-Some.was at t); newer = refl }
 
 pub returns-in_ok-note-in-Some : goal.returns-in_ok-note-in-Some
 returns-in_ok-note-in-Some c =
     let w = with_value c.in-Some.ship.now c.note.new.self in
     let n = c.get_mut.follows.lender w in
     let t = put_known c.args.self.now.ships n c.in-Some.ship.now w (kept c.args.slot) c.args.last c.args.self.now.keyed (sym c.in-Some.ensures.value) c.get_mut.ensures.ordered (c.get_mut.follows.holds w) c.note.result (rw c.deref_mut.ensures.value at c.note.ensures) in
-    rw c.in_ok-note-in-Some.was at t
+    record { done = rw c.in_ok-note-in-Some.was at t; newer = refl }
 
 pub invariant_of-self-in-None-clause-keyed : goal.invariant_of-self-in-None-clause-keyed
 invariant_of-self-in-None-clause-keyed c =
@@ -96,7 +96,10 @@ invariant_of-self-in-None-clause-noted c =
 pub returns-in_ok-insert-in-None : goal.returns-in_ok-insert-in-None
 returns-in_ok-insert-in-None c =
     let l = roomy_new c.args.self.now.ships c.get_mut.follows.lender-at-none (kept c.args.slot) c.args.last c.get_mut.follows.holds-at-none c.args.self.now.keyed (sym c.in-None.ensures.value) c.requires.room in
-    put_new c.args.self.now.ships c.get_mut.follows.lender-at-none (kept c.args.slot) c.args.last c.get_mut.follows.holds-at-none c.args.self.now.keyed (sym c.in-None.ensures.value) c.insert.new.self c.in_ok-ship-in-None.ship (ap seen c.in_ok-ship-in-None.ensures.ok ∙ c.new.ensures) l c.in_ok-insert-in-None.ensures.entries c.in_ok-insert-in-None.ensures.updates
+    record {
+      done = put_new c.args.self.now.ships c.get_mut.follows.lender-at-none (kept c.args.slot) c.args.last c.get_mut.follows.holds-at-none c.args.self.now.keyed (sym c.in-None.ensures.value) c.insert.new.self c.in_ok-ship-in-None.ship (ap seen c.in_ok-ship-in-None.ensures.ok ∙ c.new.ensures) l c.in_ok-insert-in-None.ensures.entries c.in_ok-insert-in-None.ensures.updates;
+      newer = refl;
+    }
 
 pub invariant_of-self-in-None-clause-few : goal.invariant_of-self-in-None-clause-few
 invariant_of-self-in-None-clause-few c =

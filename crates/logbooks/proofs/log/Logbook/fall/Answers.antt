@@ -1,9 +1,8 @@
 use Rattle.std.proofs.Common.{ap, ◌∙◌, arith}
 use Rattle.std.specs.Map.{values_of}
 use Rattle.logbooks.specs.Ships.{covers}
-use Rattle.logbooks.proofs.Falls.{numbered_bare, rises_bare, length_bare, log_bare}
+use Rattle.logbooks.proofs.Falls.{numbered_bare, rises_bare, length_bare, log_bare, counted_fallen}
 use Rattle.logbooks.proofs.Covers.{covers_bare}
-use Rattle.logbooks.proofs.Falls.{counted_fallen}
 use Rattle.logbooks.proofs.log.Logbook.fall.Goals as goal
 
 pub invariant_of-self : goal.invariant_of-self

@@ -11,4 +11,4 @@ returns c =
     let x = log c.args.self.now in
     let top : Some c.map_or-last.result ≡ higher (Some c.args.number) (x.lasts c.args.from.0 (ship_of (said c.args.word))) = rw (← c.ship-ship.ensures, ← c.last.ensures) (higher_is c.last.result c.args.number c.map_or-last.result _ (λ m q. search rules) c.map_or-last.ensures) in
     let S : ℕ → Kept = λ s. record { ship = s; from = c.args.from.0; number = c.args.number; word = said c.args.word; newer = None } in
-    rw (restoring_puts x c.args.from.0 c.args.number c.map_or-last.result (said c.args.word) top (S c.ship-ship.result) (ap S c.ship-ship.ensures)) c.put.ensures
+    rw (restoring_puts x c.args.from.0 c.args.number c.map_or-last.result (said c.args.word) top (S c.ship-ship.result) (ap S c.ship-ship.ensures)) c.put.ensures.done
