@@ -2,6 +2,7 @@
 ghost use Rattle.std.specs.Prelude.{◌≤◌};
 
 use crate::answers::{Answer, Output, Reason, Refused};
+use fates::Fates;
 use fleet::fleet::Fleet;
 use levels::numbers::{BoatId, Level};
 use levels::refusals::Refusal;
@@ -10,13 +11,14 @@ use rehearsal::rehearsal::Rehearsal;
 use script::faults::Fault;
 use script::seed::{Draws, Scene};
 use script::steps::{Message, Step};
-use std::alloc::Global;
+use std::alloc::{AllocError, Global};
 use std::collections::VecDeque;
 use std::io;
 use std::io::Write;
 use world::events::Event;
 
 mod deliveries;
+mod fates;
 mod reasons;
 mod shows;
 
@@ -38,8 +40,8 @@ pub struct Player {
     heap: Global,
     rehearsal: Rehearsal,
     ahead: VecDeque<Fate>,
-    words: Vec<Fate>,
-    notices: Vec<Fate>,
+    words: Fates,
+    notices: Fates,
 }
 
 impl Player {
@@ -53,8 +55,8 @@ impl Player {
             heap,
             rehearsal,
             ahead: VecDeque::new(heap),
-            words: Vec::new(heap),
-            notices: Vec::new(heap),
+            words: Fates::none(heap),
+            notices: Fates::none(heap),
         })
     }
 
@@ -69,17 +71,26 @@ impl Player {
         Some(berth.vessel.standing)
     }
 
-    // Plays an event.
+    // Memory for the fates of the notices that have none yet, and of what an event may send: a word, or a notice to each boat.
+    fn reserve(&mut self) -> Result<(), AllocError> {
+        let waiting = self
+            .fleet()
+            .notices()
+            .len()
+            .saturating_sub(self.notices.told());
+        let sent = self.fleet().boats().len();
+        self.words.reserve(1)?;
+        self.notices.reserve(waiting.saturating_add(sent))
+    }
+
+    // Plays an event. If a fate waits for what that may send, there is memory to note it first.
     fn play(&mut self, event: Event) -> Result<(), Refused> {
+        if !self.ahead.is_empty() {
+            self.reserve().map_err(|_| Refused::no_memory())?;
+        }
         self.rehearsal
             .play(event)
             .map_err(|refusal| self.refused(event, refusal))
-    }
-
-    // Plays that a word is said. What becomes of it will be noted, so there is memory for that first.
-    fn say(&mut self, event: Event) -> Result<(), Refused> {
-        self.words.reserve(1).map_err(|_| Refused::no_memory())?;
-        self.play(event)
     }
 
     // What became of a message when it was sent, if it was.
@@ -88,7 +99,7 @@ impl Player {
             Message::Word(n) => (&self.words, n),
             Message::Notice(n) => (&self.notices, n),
         };
-        fates.get((number as usize).checked_sub(1)?).copied()
+        fates.get((number as usize).checked_sub(1)?)
     }
 
     // A message comes late, or once more.
@@ -136,7 +147,7 @@ impl Player {
             Step::Tick { boat } => self.play(Event::Tick { boat }),
             Step::Announce { level } => self.play(Event::Announce { level }),
             Step::Cut { boat } => self.play(Event::Restart { boat }),
-            Step::Say { from, to, word } => self.say(Event::Say { from, to, word }),
+            Step::Say { from, to, word } => self.play(Event::Say { from, to, word }),
             Step::Show { boat } => self.looked_at(boat),
             Step::Lose => self.queue(Fate::Lost),
             Step::Hold => self.queue(Fate::Late),
@@ -170,12 +181,19 @@ impl Player {
         }
     }
 
-    // Plays so many steps, drawn from a seed. The number of a turn is needed by nobody, and a step may fail.
-    pub(crate) fn draw(&mut self, seed: u64, count: u64, out: &mut Output) -> io::Result<()> {
+    // Plays so many steps, drawn from a seed. The number of a turn is needed by nobody, and a step may fail. Each is written into the same text.
+    pub(crate) fn draw(
+        &mut self,
+        seed: u64,
+        count: u64,
+        mut echo: String,
+        out: &mut Output,
+    ) -> io::Result<()> {
         let mut draws = Draws::new(seed);
         for _ in 0..count {
             let step = draws.step(self.scene());
-            let echo = format!(in self.heap; "{step}")?;
+            echo.clear();
+            write!(echo, "{step}").map_err(|_| AllocError)?;
             self.step(step, echo.as_str(), out)?;
         }
         Ok(())

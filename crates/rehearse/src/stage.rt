@@ -9,6 +9,12 @@ use std::alloc::Global;
 use std::io;
 use std::io::{BufWriter, Stdout, Write};
 
+// How many bytes the text of a drawn step may have.
+const MOST_DRAWN: usize = 256;
+
+// How many bytes are kept from a step, so that the lines behind it can be read: a line and its text, each as it grows.
+const SPARE: usize = 32 * 1024;
+
 // The player, once there are boats, and where all is printed.
 #[derive(Drop)]
 pub struct Stage {
@@ -54,21 +60,29 @@ impl Stage {
         }
     }
 
-    // Plays a command, which the script chose: a match on data.
+    // Plays what the player does, which the script chose: a match on data. What the next lines need is kept from it.
     fn play(&mut self, command: Command, echo: &str) -> io::Result<()> {
         let Some(player) = &mut self.player else {
             return self.play_first(command, echo);
         };
+        let spare = Vec::<u8>::with_capacity(self.heap, SPARE);
         match command {
             Command::Boats(_) => self.bad(echo, Fault::BoatsAlready),
-            Command::Seed { seed, count } => {
-                writeln!(self.out, "{echo}: ok")?;
-                player.draw(seed, count, &mut self.out)
-            }
             Command::Read => {
+                drop(spare);
                 writeln!(self.out, "{echo}: ok")?;
                 let table = Table::new(self.heap, player.fleet())?;
                 write!(self.out, "{table}")
+            }
+            Command::Seed { .. } | Command::Play(_) if spare.is_err() => {
+                self.answer(echo, Answer::Refused(Refused::no_memory()))
+            }
+            Command::Seed { seed, count } => {
+                let Ok(text) = String::with_capacity(self.heap, MOST_DRAWN) else {
+                    return self.answer(echo, Answer::Refused(Refused::no_memory()));
+                };
+                writeln!(self.out, "{echo}: ok")?;
+                player.draw(seed, count, text, &mut self.out)
             }
             Command::Play(step) => player.step(step, echo, &mut self.out),
         }

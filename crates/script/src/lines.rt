@@ -5,8 +5,11 @@ use std::alloc::{AllocError, Global};
 use std::io;
 use std::io::{BufRead, BufReader, Read, Stdin};
 
-// How many bytes of a line are kept. A line, its text and its first part ask for as much memory as the longest, so that each finds what the one before it gave back, even where memory has run out.
+// How many bytes of a line are kept.
 const MOST_KEPT: usize = 4096;
+
+// For how many bytes a line and its text find place at first, which is more than a command has: the same for each, so that a line finds the memory that the one before it gave back, even where there is no other.
+const USUAL: usize = 1024;
 
 // How many characters of a line are printed.
 const MOST_SHOWN: usize = 60;
@@ -32,7 +35,7 @@ impl Line {
     pub fn plain(&self, heap: Global) -> Result<String, AllocError>
         ensures { IfOk result (λ s. string_len s ≤ vec_len self.now.bytes) }
     {
-        let mut text = String::with_capacity(heap, MOST_KEPT)?;
+        let mut text = String::with_capacity(heap, USUAL)?;
         let mut rest = self.bytes.as_slice();
         while let Some(start) = rest.iter().position(|b| *b != b' ') {
             if !text.is_empty() {
@@ -44,7 +47,7 @@ impl Line {
     }
 }
 
-// Writes a word at the end of a text, byte by byte, each of which may find no memory: the line up to its first space.
+// Writes a word at the end of a text, byte by byte: the line up to its first space.
 // What is left of the line comes back.
 fn push_word<'a>(text: &mut String, line: &'a [u8]) -> Result<&'a [u8], AllocError>
     ensures left { IfOk result (λ rest. rest.now ≡ drop (length line.now - length rest.now) line.now) }
@@ -88,7 +91,7 @@ pub fn shortened(heap: Global, text: &str) -> Result<String, AllocError>
 
 // The next line, unless the input has ended. A last line needs no end of its own.
 pub fn next_line(heap: Global, input: &mut BufReader<Stdin>) -> io::Result<Option<Line>> {
-    let mut bytes = Vec::with_capacity(heap, MOST_KEPT + 1)?;
+    let mut bytes = Vec::with_capacity(heap, USUAL)?;
     let most = MOST_KEPT as u64 + 1;
     if input.by_ref().take(most).read_until(b'\n', &mut bytes)? == 0 {
         return Ok(None);

@@ -9,11 +9,11 @@ use world::messages::Notice;
 impl Player {
     // The first message that has no fate yet, and what it says. No step sends both words and notices.
     fn next_sent(&self) -> Option<(Message, Text)> {
-        let words = self.words.len();
+        let words = self.words.told();
         if let Some(word) = self.fleet().words().get(words) {
             return Some((Message::Word(words as u64 + 1), Text::Word(*word)));
         }
-        let notices = self.notices.len();
+        let notices = self.notices.told();
         let notice = self.fleet().notices().get(notices)?;
         Some((Message::Notice(notices as u64 + 1), Text::Notice(*notice)))
     }
@@ -21,8 +21,8 @@ impl Player {
     // Gives the next message of a sort its fate.
     fn note(&mut self, message: Message, fate: Fate) -> io::Result<()> {
         match message {
-            Message::Word(_) => self.words.push(fate)?,
-            Message::Notice(_) => self.notices.push(fate)?,
+            Message::Word(_) => self.words.note(fate)?,
+            Message::Notice(_) => self.notices.note(fate)?,
         }
         Ok(())
     }
