@@ -71,23 +71,8 @@ impl Player {
         Some(berth.vessel.standing)
     }
 
-    // Memory for the fates of the notices that have none yet, and of what an event may send: a word, or a notice to each boat.
-    fn reserve(&mut self) -> Result<(), AllocError> {
-        let waiting = self
-            .fleet()
-            .notices()
-            .len()
-            .saturating_sub(self.notices.told());
-        let sent = self.fleet().boats().len();
-        self.words.reserve(1)?;
-        self.notices.reserve(waiting.saturating_add(sent))
-    }
-
-    // Plays an event. If a fate waits for what that may send, there is memory to note it first.
+    // Plays an event.
     fn play(&mut self, event: Event) -> Result<(), Refused> {
-        if !self.ahead.is_empty() {
-            self.reserve().map_err(|_| Refused::no_memory())?;
-        }
         self.rehearsal
             .play(event)
             .map_err(|refusal| self.refused(event, refusal))

@@ -9,7 +9,7 @@ use std::alloc::Global;
 use std::io;
 use std::io::{BufWriter, Stdout, Write};
 
-// How many bytes the text of a drawn step may have.
+// For how many bytes the text of a drawn step finds place at first.
 const MOST_DRAWN: usize = 256;
 
 // How many bytes are kept from a step, so that the lines behind it can be read: a line and its text, each as it grows.

@@ -8,7 +8,7 @@ use std::io::{BufRead, BufReader, Read, Stdin};
 // How many bytes of a line are kept.
 const MOST_KEPT: usize = 4096;
 
-// For how many bytes a line and its text find place at first, which is more than a command has: the same for each, so that a line finds the memory that the one before it gave back, even where there is no other.
+// For how many bytes a line and its text find place at first, which is more than most commands have: the same for each, so that a line finds the memory that the one before it gave back, even where there is no other.
 const USUAL: usize = 1024;
 
 // How many characters of a line are printed.

@@ -27,18 +27,28 @@ impl Player {
         Ok(())
     }
 
+    // The fate of the next message: the one that waits, or it comes. One for which there is no memory waits on, and the message comes.
+    fn next_fate(&mut self, message: Message) -> io::Result<Fate> {
+        if let Some(fate) = self.ahead.front().copied()
+            && self.note(message, fate).is_ok()
+        {
+            let _ = self.ahead.pop_front();
+            return Ok(fate);
+        }
+        self.note(message, Fate::Comes)?;
+        Ok(Fate::Comes)
+    }
+
     // Brings the next message, unless another fate waits for it.
     fn deliver(&mut self, message: Message) -> io::Result<Answer> {
-        let fate = self.ahead.pop_front().unwrap_or(Fate::Comes);
-        self.note(message, fate)?;
-        match fate {
+        match self.next_fate(message)? {
             Fate::Comes => Ok(self.play(message.coming()).into()),
             Fate::Lost => Ok(Answer::Lost),
             Fate::Late => Ok(Answer::Late),
         }
     }
 
-    // Takes a message that a rise sent. All have come already but what the boats said last, that they have the level: that comes now.
+    // Takes a message that a rise sent. All have come already but what the boats said last, that they have the level: that comes now, and sends nothing.
     fn brought(&mut self, message: Message, text: Text) -> io::Result<Answer> {
         self.note(message, Fate::Comes)?;
         match text {

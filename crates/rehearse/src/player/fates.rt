@@ -28,12 +28,6 @@ impl Fates {
         (place < self.told).then_some(self.list.get(place).copied().unwrap_or(Fate::Comes))
     }
 
-    // Memory for so many fates more, whichever they are.
-    pub(super) fn reserve(&mut self, more: usize) -> Result<(), AllocError> {
-        let all = self.told.saturating_add(more);
-        self.list.reserve(all.saturating_sub(self.list.len()))
-    }
-
     // The next message has a fate.
     pub(super) fn note(&mut self, fate: Fate) -> Result<(), AllocError> {
         match fate {
