@@ -15,6 +15,13 @@ const MOST_DRAWN: usize = 256;
 // How many bytes are kept from a step, so that the lines behind it can be read: a line and its text, each as it grows.
 const SPARE: usize = 32 * 1024;
 
+// So much memory, or a part of it where that is all that can be had.
+fn spare(heap: Global) -> Option<Vec<u8>> {
+    [SPARE, SPARE / 4, SPARE / 16]
+        .into_iter()
+        .find_map(|bytes| Vec::with_capacity(heap, bytes).ok())
+}
+
 // The player, once there are boats, and where all is printed.
 #[derive(Drop)]
 pub struct Stage {
@@ -60,12 +67,12 @@ impl Stage {
         }
     }
 
-    // Plays what the player does, which the script chose: a match on data. What the next lines need is kept from it.
+    // Plays what the player does, which the script chose: a match on data. What the next lines need is kept from it, where that is to be had: a step that needs no memory is done all the same.
     fn play(&mut self, command: Command, echo: &str) -> io::Result<()> {
         let Some(player) = &mut self.player else {
             return self.play_first(command, echo);
         };
-        let spare = Vec::<u8>::with_capacity(self.heap, SPARE);
+        let spare = spare(self.heap);
         match command {
             Command::Boats(_) => self.bad(echo, Fault::BoatsAlready),
             Command::Read => {
@@ -73,9 +80,6 @@ impl Stage {
                 writeln!(self.out, "{echo}: ok")?;
                 let table = Table::new(self.heap, player.fleet())?;
                 write!(self.out, "{table}")
-            }
-            Command::Seed { .. } | Command::Play(_) if spare.is_err() => {
-                self.answer(echo, Answer::Refused(Refused::no_memory()))
             }
             Command::Seed { seed, count } => {
                 let Ok(text) = String::with_capacity(self.heap, MOST_DRAWN) else {
