@@ -14,7 +14,7 @@ pub struct Boat {
     memory: Memory,
 }
 
-// Its standing, whether its promise was answered, the numbers that its words have used, and the words that it keeps. (A boat of the fleet in memory, `fleet::Vessel`, has the same and writes nothing down: its steps give no records.) That an answer came hangs on no other field, so it is a flag.
+// Its standing, whether its promise was answered, the numbers that its words have used, and the words that it keeps. (A boat of the fleet in memory, `fleet::Berth`, has the same and writes nothing down: its steps give no records.) That an answer came hangs on no other field, so it is a flag.
 #[derive(Drop)]
 struct Memory {
     standing: Standing,

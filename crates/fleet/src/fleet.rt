@@ -9,7 +9,7 @@ mod begins;
 mod reads;
 mod steps;
 
-// A boat: its standing, whether the harbour has answered its promise, which it forgets when its program ends, and the numbers that it has used for its words. That an answer came hangs on no other field, so it is a flag. (A boat with a file, in `boats`, has the same and gives records to be synced.)
+// A boat: its standing, whether the harbour has answered its promise, which it forgets when its program ends, and the numbers that it has used for its words. That an answer came hangs on no other field, so it is a flag.
 #[derive(Clone, Copy)]
 pub struct Vessel {
     pub standing: Standing,
@@ -17,7 +17,7 @@ pub struct Vessel {
     pub used: u32,
 }
 
-// A boat with what it keeps of the words that it took.
+// A boat with what it keeps of the words that it took. (A boat with a file, in `boats`, has the same and gives records to be synced.)
 #[derive(Drop)]
 pub struct Berth {
     pub vessel: Vessel,

@@ -1,5 +1,6 @@
 // The script on standard input, a line at a time, as bytes.
-ghost use Rattle.std.specs.Prelude.{◌≡◌, ◌≢◌, ℕ, ◌+◌, ◌-◌, ◌<◌, ◌≤◌, length, drop, slice_index, IfOk, vec_len, string_len};
+ghost use Rattle.std.specs.Prelude.{◌≡◌, ◌≢◌, ℕ, ◌+◌, ◌-◌, ◌<◌, ◌≤◌, [], length, drop, slice_index, IfOk, vec_len, string_len};
+ghost use Rattle.std.specs.String.{string_bytes};
 
 use std::alloc::{AllocError, Global};
 use std::io;
@@ -8,7 +9,7 @@ use std::io::{BufRead, BufReader, Read, Stdin};
 // How many bytes of a line are kept.
 const MOST_KEPT: usize = 4096;
 
-// For how many bytes a line and its text find place at first, which is more than most commands have: the same for each, so that a line finds the memory that the one before it gave back, even where there is no other.
+// For how many bytes a line and its text find place at first, which is more than most commands have: the same for each, so that a line finds the memory that the one before it gave back, even where there is no other. Where there is not that much, they grow as they are written.
 const USUAL: usize = 1024;
 
 // How many characters of a line are printed.
@@ -25,6 +26,13 @@ pub struct Line {
     ghost kept: { vec_len bytes ≤ 4096 },
 }
 
+// An empty text with place for so many bytes, if there is memory for them.
+fn roomy(heap: Global, bytes: usize) -> String
+    ensures { string_bytes result ≡ [] }
+{
+    String::with_capacity(heap, bytes).unwrap_or_else(|_| String::new(heap))
+}
+
 impl Line {
     // Was there more of it than is kept?
     pub fn is_long(&self) -> bool {
@@ -35,7 +43,7 @@ impl Line {
     pub fn plain(&self, heap: Global) -> Result<String, AllocError>
         ensures { IfOk result (λ s. string_len s ≤ vec_len self.now.bytes) }
     {
-        let mut text = String::with_capacity(heap, USUAL)?;
+        let mut text = roomy(heap, USUAL);
         let mut rest = self.bytes.as_slice();
         while let Some(start) = rest.iter().position(|b| *b != b' ') {
             if !text.is_empty() {
@@ -81,7 +89,7 @@ fn printable(byte: u8) -> char
 pub fn shortened(heap: Global, text: &str) -> Result<String, AllocError>
     ensures { IfOk result (λ s. string_len s ≤ 242) }
 {
-    let mut short = String::with_capacity(heap, MOST_SHORTENED)?;
+    let mut short = roomy(heap, MOST_SHORTENED);
     short.extend(text.chars().take(MOST_SHOWN))?;
     if short.len() < text.len() {
         short.push_str("..")?;
@@ -91,7 +99,7 @@ pub fn shortened(heap: Global, text: &str) -> Result<String, AllocError>
 
 // The next line, unless the input has ended. A last line needs no end of its own.
 pub fn next_line(heap: Global, input: &mut BufReader<Stdin>) -> io::Result<Option<Line>> {
-    let mut bytes = Vec::with_capacity(heap, USUAL)?;
+    let mut bytes = Vec::with_capacity(heap, USUAL).unwrap_or_else(|_| Vec::new(heap));
     let most = MOST_KEPT as u64 + 1;
     if input.by_ref().take(most).read_until(b'\n', &mut bytes)? == 0 {
         return Ok(None);
@@ -103,4 +111,32 @@ pub fn next_line(heap: Global, input: &mut BufReader<Stdin>) -> io::Result<Optio
         input.skip_until(b'\n')?;
     }
     Ok(Some(Line { bytes, long }))
+}
+
+#[cfg(test)]
+mod tests {
+    use super::*;
+    use std::test::Fail;
+
+    // There is memory for a text of nothing and for one that is too long, and a line's words are parted by one space.
+    #[test]
+    fn finds_memory_for_texts(rt: HostRuntime) -> Result<(), Fail> {
+        let heap = rt.alloc();
+        assert_eq!(rt; shortened(heap, "")?.as_str(), "");
+        let long = "0123456789".repeat(heap, 7)?;
+        let cut = shortened(heap, long.as_str())?;
+        assert_eq!(rt; cut.len(), 62);
+        assert!(rt; cut.as_str().ends_with("9.."));
+        let empty = Line {
+            bytes: Vec::new(heap),
+            long: false,
+        };
+        assert_eq!(rt; empty.plain(heap)?.as_str(), "");
+        let spoken = Line {
+            bytes: vec![in heap; b' ', b's', b'a', b'y', b' ', b' ', 0, b' ']?,
+            long: false,
+        };
+        assert_eq!(rt; spoken.plain(heap)?.as_str(), "say ?");
+        Ok(())
+    }
 }
