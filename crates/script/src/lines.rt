@@ -118,11 +118,13 @@ mod tests {
     use super::*;
     use std::test::Fail;
 
-    // There is memory for a text of nothing and for one that is too long, and a line's words are parted by one space.
+    // There is memory for a usual text at once, of a text of nothing and of one that is too long, and a line's words are parted by one space.
     #[test]
     fn finds_memory_for_texts(rt: HostRuntime) -> Result<(), Fail> {
         let heap = rt.alloc();
-        assert_eq!(rt; shortened(heap, "")?.as_str(), "");
+        let nothing = shortened(heap, "")?;
+        assert_eq!(rt; nothing.as_str(), "");
+        assert!(rt; nothing.capacity() >= MOST_SHORTENED);
         let long = "0123456789".repeat(heap, 7)?;
         let cut = shortened(heap, long.as_str())?;
         assert_eq!(rt; cut.len(), 62);
@@ -131,7 +133,9 @@ mod tests {
             bytes: Vec::new(heap),
             long: false,
         };
-        assert_eq!(rt; empty.plain(heap)?.as_str(), "");
+        let plain = empty.plain(heap)?;
+        assert_eq!(rt; plain.as_str(), "");
+        assert!(rt; plain.capacity() >= USUAL);
         let spoken = Line {
             bytes: vec![in heap; b' ', b's', b'a', b'y', b' ', b' ', 0, b' ']?,
             long: false,
